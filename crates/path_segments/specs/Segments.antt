@@ -62,22 +62,27 @@ lastOf len closed = cond closed 0 (len - 1)
 -- from point i - 1 to the one after it, which after the last point is the first
 unfoldable pub legSegment : List Float → List Float → List Float → List Float → ℕ → ℕ → PathSegment
 legSegment xs ys bends times len i =
-    pathBetween (getD times (i - 1) nan) (getD times i nan) (getD xs (i - 1) nan) (getD ys (i - 1) nan)
-    (getD xs (i % len) nan -₃₂ getD xs (i - 1) nan) (getD ys (i % len) nan -₃₂ getD ys (i - 1) nan) (getD bends (i - 1) nan)
+    let a = i - 1 in
+    let b = i % len in
+    let x = getD xs a nan in
+    let y = getD ys a nan in
+    pathBetween (getD times a nan) (getD times i nan) x y (getD xs b nan -₃₂ x) (getD ys b nan -₃₂ y) (getD bends a nan)
 
 -- The segment after the first i of the n + 1 times: before the first time the first point holds, and after the last the one at which the path ends.
 unfoldable pub pathSegmentAt : List Float → List Float → List Float → List Float → ℕ → Bool → ℕ → ℕ → PathSegment
 pathSegmentAt xs ys bends times len closed n i =
+    let last = lastOf len closed in
     cond (eqb i 0) (pathHold (inf true) (getD times 0 nan) (getD xs 0 nan) (getD ys 0 nan))
-    (cond (ltb n i) (pathHold (getD times n nan) (inf false) (getD xs (lastOf len closed) nan) (getD ys (lastOf len closed) nan))
+    (cond (ltb n i) (pathHold (getD times n nan) (inf false) (getD xs last nan) (getD ys last nan))
     (legSegment xs ys bends times len i))
 
 -- The segment that holds t; of no points, 0 everywhere, and of a path with no segment, its first point. Where two neighbouring times lie 2 ^ -128 or less apart the reciprocal of their distance is infinite, and the values between them can be NaN.
 unfoldable pub pathSegment : List Float → List Float → List Float → List Float → ℕ → Bool → Float → PathSegment
 pathSegment xs ys bends times len closed t =
+    let n = segmentsOf len closed in
     cond (eqb len 0) (pathHold (inf true) (inf false) f32-0 f32-0)
-    (cond (eqb (segmentsOf len closed) 0) (pathHold (inf true) (inf false) (getD xs 0 nan) (getD ys 0 nan))
-    (pathSegmentAt xs ys bends times len closed (segmentsOf len closed) (partitionPoint times (suc (segmentsOf len closed)) t)))
+    (cond (eqb n 0) (pathHold (inf true) (inf false) (getD xs 0 nan) (getD ys 0 nan))
+    (pathSegmentAt xs ys bends times len closed n (partitionPoint times (suc n) t)))
 
 -- ---- what the laws speak of
 
@@ -86,8 +91,10 @@ unfoldable pub rustPathSegment : List Float → List Float → List Float → Li
 rustPathSegment xs ys bends times len closed t =
     let n = segmentsOf len closed in
     let j = partitionPoint times (suc n) t - 1 in
+    let end = getD times n nan in
+    let last = lastOf len closed in
     cond (eqb len 0) (pathHold (inf true) (inf false) f32-0 f32-0)
     (cond (eqb n 0) (pathHold (inf true) (inf false) (getD xs 0 nan) (getD ys 0 nan))
     (cond (lt t f32-0) (pathHold (inf true) f32-0 (getD xs 0 nan) (getD ys 0 nan))
-    (cond (le (getD times n nan) t) (pathHold (getD times n nan) (inf false) (getD xs (lastOf len closed) nan) (getD ys (lastOf len closed) nan))
+    (cond (le end t) (pathHold end (inf false) (getD xs last nan) (getD ys last nan))
     (legSegment xs ys bends times len (suc j)))))
