@@ -36,9 +36,11 @@ pathBetween t0 t1 x y dx dy bend =
       ny = bend ×₃₂ f32-½ ×₃₂ dx;
     }
 
+-- whether it holds t
 abbrev pub pathContains : PathSegment → Float → Bool
 pathContains s t = le (s .lo) t && lt t (s .hi)
 
+-- where t falls in it, 0 to 1
 abbrev pub pathU : PathSegment → Float → Float
 pathU s t = (t -₃₂ s .t0) ×₃₂ s .«inv_w»
 
@@ -46,12 +48,13 @@ pathU s t = (t -₃₂ s .t0) ×₃₂ s .«inv_w»
 abbrev pub coordinate : Float → Float → Float → Float → Float → Float
 coordinate u h a d n = a +₃₂ u ×₃₂ d +₃₂ h ×₃₂ n
 
--- with h = 4 u (1 - u)
+-- X and Y at u, with h = 4 u (1 - u)
 abbrev pub pathPoint : Float → PathSegment → Xy
 pathPoint u s =
     let h = f32-4 ×₃₂ u ×₃₂ (f32-1 -₃₂ u) in
     record { x = coordinate u h (s .ax) (s .dx) (s .nx); y = coordinate u h (s .ay) (s .dy) (s .ny) }
 
+-- X and Y at t
 abbrev pub pathEval : PathSegment → Float → Xy
 pathEval s t = pathPoint (pathU s t) s
 
@@ -76,7 +79,7 @@ pathSegmentAt xs ys bends times len closed n i =
     (cond (ltb n i) (pathHold (getD times n nan) (inf false) (getD xs last nan) (getD ys last nan))
     (legSegment xs ys bends times len i))
 
--- The segment that holds t; of no points, 0 everywhere, and of a path with no segment, its first point. Where two neighbouring times lie 2 ^ -128 or less apart the reciprocal of their distance is infinite, and the values between them can be NaN.
+-- The segment that holds t; of no points, 0 everywhere, and of a path with no segment, its first point. A NaN, which no accepted call gives, counts as before the first time. Where two neighbouring times lie 2 ^ -128 or less apart the reciprocal of their distance is infinite, and the values between them can be NaN.
 unfoldable pub pathSegment : List Float → List Float → List Float → List Float → ℕ → Bool → Float → PathSegment
 pathSegment xs ys bends times len closed t =
     let n = segmentsOf len closed in

@@ -22,15 +22,19 @@ holdOf lo hi y = record { lo = lo; hi = hi; x0 = f32-0; «inv_w» = f32-0; y0 = 
 abbrev pub betweenOf : Float → Float → Float → Float → Float → Segment
 betweenOf x0 x1 y0 y1 e = record { lo = x0; hi = x1; x0 = x0; «inv_w» = f32-1 ÷₃₂ (x1 -₃₂ x0); y0 = y0; dy = y1 -₃₂ y0; e = e }
 
+-- whether it holds x
 abbrev pub containsOf : Segment → Float → Bool
 containsOf s x = le (s .lo) x && lt x (s .hi)
 
+-- where x falls in it, 0 to 1
 abbrev pub uOf : Segment → Float → Float
 uOf s x = (x -₃₂ s .x0) ×₃₂ s .«inv_w»
 
+-- from y0 at u = 0 towards y0 + dy at u = 1, bent by e; 1 is straight
 abbrev pub curveOf : Float → Float → Float → Float → Float
 curveOf u y0 dy e = y0 +₃₂ dy ×₃₂ (u ÷₃₂ (u +₃₂ (f32-1 -₃₂ u) ×₃₂ e))
 
+-- its value at x
 abbrev pub evalOf : Segment → Float → Float
 evalOf s x = curveOf (uOf s x) (s .y0) (s .dy) (s .e)
 
@@ -46,7 +50,7 @@ segmentAt xs ys es steps n i =
     (cond (getD steps k false) (holdOf x0 x1 y0)
     (betweenOf x0 x1 y0 (getD ys i nan) (getD es k nan))))
 
--- The segment that holds x; of no points, 0 everywhere. Where two neighbours lie 2 ^ -128 or less apart the reciprocal of their distance is infinite, and the value between them can be a NaN.
+-- The segment that holds x; of no points, 0 everywhere. A NaN, which no accepted call gives, counts as before the first point. Where two neighbours lie 2 ^ -128 or less apart the reciprocal of their distance is infinite, and the value between them can be a NaN.
 unfoldable pub drawnSegment : List Float → List Float → List Float → List Bool → ℕ → Float → Segment
 drawnSegment xs ys es steps n x = cond (eqb n 0) (holdOf (inf true) (inf false) f32-0) (segmentAt xs ys es steps n (partitionPoint xs n x))
 
