@@ -9,7 +9,7 @@ use lib.Ieee.{Float}
 use Rattle.settings.specs.Choices.{lfoTypes, lfoTypeAt, modes, modeAt, directions, directionAt, feels, feelAt, noYes, yesNoAt}
 use Rattle.settings.specs.Divisions.{divisionAt}
 use Rattle.settings.specs.Times.{rates, syncedRate, hzRate, rateAt, spans, syncedSpan, spanAt, scales, scaleAt}
-use Rattle.settings.specs.Codes.{smooths, smoothAt, settingsAt, transportAt, withKind, withMode, withDirection, withYesNo, withRate, withSpan, withScale, withSmooth, rateKnown, spanKnown, scaleKnown, smoothKnown, settingsKnown, transportKnown, isSettings, isTransport}
+use Rattle.settings.specs.Codes.{smooths, smoothAt, withSpans, withSwitches, settingsAt, transportAt, withKind, withMode, withDirection, withYesNo, withRate, withSpan, withScale, withSmooth, rateKnown, spanKnown, scaleKnown, smoothKnown, settingsKnown, transportKnown, isSettings, isTransport}
 use Rattle.settings.specs.declared.choices.LfoType.{LfoType}
 use Rattle.settings.specs.declared.choices.LfoTypeCode.{LfoTypeCode}
 use Rattle.settings.specs.declared.choices.LfoTypeCode.the-variants as LfoTypeCode
@@ -217,7 +217,7 @@ span-known c = at (c .code)
 -- ---- whole records
 
 pub settings-known : (c : SettingsCodes) → isSettings (settingsAt c) ≡ settingsKnown c
-unfolding settingsAt settingsKnown
+unfolding settingsAt withSwitches withSpans settingsKnown
 settings-known c =
     simp (and-assoc)
     (with-kind isSettings refl (lfoTypeAt (c .kind)) (kind-known (c .kind)) λ kind.
@@ -226,10 +226,10 @@ settings-known c =
     with-rate isSettings refl (rateAt (c .rate)) (rate-known (c .rate)) λ rate.
     with-yes-no isSettings refl (yesNoAt (c .«song_lock»)) (yes-no-known (c .«song_lock»)) λ lock.
     with-yes-no isSettings refl (yesNoAt (c .swing)) (yes-no-known (c .swing)) λ swing.
+    with-yes-no isSettings refl (yesNoAt (c .«phase_snap»)) (yes-no-known (c .«phase_snap»)) λ snap.
     with-span isSettings refl (spanAt (c .«fade_in»)) (span-known (c .«fade_in»)) λ fade.
     with-span isSettings refl (spanAt (c .delay)) (span-known (c .delay)) λ delay.
-    with-smooth isSettings refl (smoothAt (c .smooth)) (smooth-known (c .smooth)) λ smooth.
-    with-yes-no isSettings refl (yesNoAt (c .«phase_snap»)) (yes-no-known (c .«phase_snap»)) (λ snap. refl) ∙ and-true _)
+    with-smooth isSettings refl (smoothAt (c .smooth)) (smooth-known (c .smooth)) (λ smooth. refl) ∙ and-true _)
 
 pub transport-known : (c : TransportCodes) → isTransport (transportAt c) ≡ transportKnown c
 unfolding transportAt transportKnown
