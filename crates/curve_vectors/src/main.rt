@@ -7,12 +7,12 @@ ghost use Prim.Native.Nat.{_≤_};
 use libc::STDOUT_FILENO;
 use path::Path;
 use path::PathPoint;
-use path::Xy;
-use path::path_segment;
+use path_segments::Xy;
+use path_segments::path_segment;
+use points::PointMod;
 use shape::Point;
-use shape::PointMod;
 use shape::Shape;
-use shape::drawn_segment;
+use shape_segments::drawn_segment;
 
 // Where shapes and paths are evaluated. 5e-41 lies inside the gap of `tiny_gap`.
 const AT: [f32; 13] = [
