@@ -216,7 +216,7 @@ fn unsorted() {
 fn negative_zeros() {
     show(b"negative zeros\n");
     let mut p = no_points();
-    p[0] = Point::new(0.0, 0.7);
+    p[0] = Point::new(0.0, -0.0);
     p[1] = bent(-0.0, -0.0, -0.0, 1.0);
     p[2] = stepped(0.5, -0.0);
     p[3] = Point::new(0.75, -0.0);
@@ -407,19 +407,20 @@ fn path_of_no_length() {
     show_path(p, 3, true, [0.0f32; 64]);
 }
 
-// The buses move the points and not the times.
+// The buses move the points and not the times. Two points are reached at 0.75, of which the last starts the segment.
 fn moving_path() {
     show(b"moving path\n");
     let mut p = no_path_points();
     p[0] = moving_along(bowed(0.0, 0.0, 0.5), 9, 0.1, 6, -10.0);
     p[1] = moving_along(bowed(0.375, 0.5, -0.5), 5, 0.5, 6, 10.0);
     p[2] = moving_along(bowed(0.375, 1.0, 0.75), 16, 1.0, 255, -1.0);
-    p[3] = moving_along(bowed(-0.0, 1.0, 0.1), 7, -1.0, 8, 1.0);
+    p[3] = moving_along(bowed(0.375, 1.0, -0.25), 4, 2.0, 15, 0.5);
+    p[4] = moving_along(bowed(-0.0, 1.0, 0.1), 7, -1.0, 8, 1.0);
     let mut legs = [0.0f32; 64];
     legs[0] = 0.625;
     legs[1] = 0.5;
-    legs[2] = 0.375;
-    show_path(p, 4, false, legs);
+    legs[3] = 0.375;
+    show_path(p, 5, false, legs);
 }
 
 fn main() {
