@@ -1,3 +1,5 @@
 pub mod States
 pub mod Numbers
 pub mod Curves
+pub mod Choices
+pub mod Places

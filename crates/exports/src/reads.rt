@@ -10,6 +10,12 @@ pub fn nan() -> f32
     0.0 / 0.0
 }
 
+pub fn nan_f64() -> f64
+    ensures { λ r. ⌜ r ≡ nan ⌝ }
+{
+    0.0 / 0.0
+}
+
 pub fn float(s: &[f32], i: usize) -> f32
     ensures { λ r. ⌜ r ≡ getD (now (s .entry)) i nan ⌝ }
 {
