@@ -3,3 +3,4 @@ pub mod Numbers
 pub mod Curves
 pub mod Choices
 pub mod Places
+pub mod Cases
