@@ -1,5 +1,5 @@
 -- A case of the clock, from words. Assumes nothing.
-use Prim.Native.Nat.{ℕ, _+_, _%_, _^_}
+use Prim.Native.Nat.{ℕ, _+_, _%_, _^_, _<_}
 use mathlib.Core.Bool.{Bool, true, false, not}
 use mathlib.Core.List.{List, [], _∷_}
 use lib.Dec.{eqb}
@@ -19,10 +19,12 @@ use Rattle.settings.specs.declared.record.Transport.{Transport}
 use Rattle.settings.specs.declared.record.TransportCodes.{TransportCodes}
 use Rattle.settings.specs.declared.record.TransportCode.{TransportCode}
 use Rattle.settings.specs.declared.record.TransportCode.the-variants as TransportCode
+use Rattle.clock.specs.Anchor.{countOf}
 use Rattle.clock.specs.declared.anchor.Anchor.{Anchor}
 use Rattle.clock.specs.declared.anchor.Anchor.the-variants.{Samples, Beats, Seconds}
 use Rattle.clock.specs.declared.free.Clock.{Clock}
 use Rattle.exports.specs.Places.{loopPointOf}
+use Rattle.exports.specs.declared.cases.Case.{Case}
 use Rattle.exports.specs.declared.cases.CaseCode.{CaseCode}
 use Rattle.exports.specs.declared.cases.CaseCode.the-variants as CaseCode
 
@@ -114,13 +116,9 @@ module _ {A : Type 0} (u : A) where
   withTransport (TransportCode.Known x) f = f x
   withTransport TransportCode.Unknown f = u
 
--- known where every code is
-unfoldable pub caseOf : List ℕ → CaseCode
-caseOf w =
-    withSettings CaseCode.Unknown (settingsAt (settingsCodesOf w)) λ s.
-    withTransport CaseCode.Unknown (transportAt (transportCodesOf w)) λ t.
-    CaseCode.Known
-    (record {
+unfoldable pub caseBy : List ℕ → Settings → Transport → Case
+caseBy w s t =
+    record {
       settings = settingsBy (yesOf w 41) s;
       transport = t;
       clock = clockFrom w;
@@ -128,4 +126,18 @@ caseOf w =
       anchor = anchorFrom w;
       at = countIn w 40;
       loopback = loopPointOf (yesOf w 42) (f64Of w 43);
-    })
+    }
+
+-- known where every code is
+unfoldable pub caseOf : List ℕ → CaseCode
+caseOf w =
+    withSettings CaseCode.Unknown (settingsAt (settingsCodesOf w)) λ s.
+    withTransport CaseCode.Unknown (transportAt (transportCodesOf w)) λ t.
+    CaseCode.Known (caseBy w s t)
+
+-- its counts are below 2 ^ 62
+pub record Bounded (c : Case) : Type 0 where
+  pub clock-count : c .clock .n < 2 ^ 62
+  pub frame-count : c .frames < 2 ^ 62
+  pub anchor-count : countOf (c .anchor) < 2 ^ 62
+  pub sample-count : c .at < 2 ^ 62

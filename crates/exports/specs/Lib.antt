@@ -4,3 +4,4 @@ pub mod Curves
 pub mod Choices
 pub mod Places
 pub mod Cases
+pub mod Clocks

@@ -1,6 +1,6 @@
 -- `case_of` meets its contract: what each call gave, put together. Assumes nothing.
 use borrow.Author.Needs.{needs}
-use Rattle.exports.specs.Cases.{caseOf}
+use Rattle.exports.specs.Cases.{caseBy, caseOf}
 use Rattle.exports.proofs.cases.case_of.Statement.{statement}
 use Rattle.exports.proofs.cases.case_of.Tie as tie
 
@@ -14,7 +14,7 @@ returns-2 c =
     rw (← c .before .before .before .before .before .before .before .before .settings-codes .ensures, ← c .before .before .before .before .before .before .before .from-codes .ensures, c .before .before .before .before .before .given .given .1, ← c .before .before .before .transport-codes .ensures, ← c .before .before .from-codes2 .ensures, c .enum-told2 .given .1)
 
 returns-3 : tie.Need-returns-3
-unfolding caseOf
+unfolding caseOf caseBy
 returns-3 c =
     rw (
       ← c .before .before .before .before .before .before .before .before .before .before .before .before .before .before .before .before .before .before .settings-codes .ensures,

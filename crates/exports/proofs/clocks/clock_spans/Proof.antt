@@ -1,0 +1,23 @@
+-- `clock_spans` meets its contract. Assumes nothing.
+use borrow.Author.Needs.{needs}
+use Rattle.exports.specs.Clocks.{wordAt, spansOf}
+use Rattle.exports.specs.declared.cases.Case.{Case}
+use Rattle.exports.proofs.Bounds.{when-known, when-unknown, bounded}
+use Rattle.exports.proofs.clocks.clock_spans.Statement.{statement}
+use Rattle.exports.proofs.clocks.clock_spans.Tie as tie
+
+spans-word-requires : tie.Need-spans-word-requires
+spans-word-requires c κs = bounded _ _ _ (c .before .before .before .case-of .ensures) (c .before .c .given .1)
+
+returns : tie.Need-returns
+returns c =
+    let a = c .before .before .before .before .before .before .args in
+    when-known (λ (x : Case). wordAt (spansOf x) (a .which)) _ _ _ _ (c .before .before .before .before .case-of .ensures) (c .before .before .c .given .1) (c .spans-word .ensures)
+
+returns-2 : tie.Need-returns-2
+returns-2 c =
+    let a = c .before .before .before .before .args in
+    when-unknown (λ (x : Case). wordAt (spansOf x) (a .which)) _ _ (c .before .before .case-of .ensures) (c .enum-told .given .1)
+
+pub clock-spans-spec : {M : Type 1} → statement M
+clock-spans-spec = tie.close (tie.spec (λ c κs. search needs) (λ c. search needs) spans-word-requires (λ c. search needs) returns returns-2)

@@ -1,0 +1,26 @@
+-- `clock_word` meets its contract. Assumes nothing.
+use borrow.Author.Needs.{needs}
+use mathlib.Core.Path.{_∙_}
+use mathlib.Core.List.{[]}
+use Rattle.exports.proofs.Words.{_∷≡_, same, picked}
+use Rattle.exports.specs.Clocks.{clockWord}
+use Rattle.exports.proofs.clocks.clock_word.Statement.{statement}
+use Rattle.exports.proofs.clocks.clock_word.Tie as tie
+
+returns : tie.Need-returns
+unfolding clockWord
+returns c =
+    let a = c .before .before .before .before .before .before .args in
+    c .word .ensures ∙ picked (a .which) 0 (c .before .before .before .before .before .bits-of-f64 .ensures ∷≡ same (a .k .n) ∷≡ c .before .before .before .before .bits-of-f642 .ensures ∷≡ c .before .before .before .bits-of-f643 .ensures ∷≡ c .before .before .yes-number .ensures ∷≡ same [])
+
+pub clock-word-spec : {M : Type 1} → statement M
+clock-word-spec =
+    tie.close
+    (tie.spec
+    (λ c κs. search needs)
+    (λ c κs. search needs)
+    (λ c κs. search needs)
+    (λ c κs. search needs)
+    (λ c. search needs)
+    (λ c κs. search needs)
+    returns)
