@@ -1,6 +1,6 @@
 //! `clock` and the settings that go into it against lfo/mod.rs: blocks in a row, with settings and transport changed between them.
 use crate::ffi;
-use crate::lfo::{Block, Lfo, LfoVoice, Mode, Rate, Scale, Settings, Span, Transport};
+use crate::lfo::{Block, Lfo, LfoType, LfoVoice, Mode, Rate, Scale, Settings, Span, Transport};
 use crate::tally::{Tally, bits32, bits64};
 use crate::values::Values;
 
@@ -179,9 +179,12 @@ impl Case<'_> {
         self.compare("count, swung, position, phase", ffi::clock_count, &counts);
     }
 
+    // Sample and hold, so that no segment is searched: a count may be a NaN here.
     fn next(&mut self, voice: &LfoVoice) {
+        let mut lfo = self.lfo.clone();
+        lfo.settings.kind = LfoType::SampleAndHold;
         let mut after = voice.clone();
-        self.lfo.stage_(self.block, &mut after, self.at);
+        lfo.stage_(self.block, &mut after, self.at);
         self.compare(
             "anchor after a sample",
             |w, i| ffi::clock_anchor(w, 2, i),
