@@ -1,6 +1,7 @@
 -- Settings and a transport from their codes: known where every code is. Assumes nothing.
-use mathlib.Core.Bool.{Bool}
+use mathlib.Core.Bool.{Bool, true, false, _&&_, cond}
 use mathlib.Core.List.{List, [], _∷_}
+use lib.Dec.{eqb, ltb}
 use lib.ListN.{getD}
 use Rattle.settings.specs.Choices.{lfoTypeAt, modeAt, directionAt, yesNoAt}
 use Rattle.settings.specs.Times.{rateAt, spanAt, scaleAt}
@@ -16,12 +17,15 @@ use Rattle.settings.specs.declared.choices.DirectionCode.the-variants as
 use Rattle.settings.specs.declared.choices.YesNo.{YesNo}
 use Rattle.settings.specs.declared.choices.YesNo.the-variants as YesNo
 use Rattle.settings.specs.declared.times.Rate.{Rate}
+use Rattle.settings.specs.declared.times.RateCodes.{RateCodes}
 use Rattle.settings.specs.declared.times.RateCode.{RateCode}
 use Rattle.settings.specs.declared.times.RateCode.the-variants as RateCode
 use Rattle.settings.specs.declared.times.Span.{Span}
+use Rattle.settings.specs.declared.times.SpanCodes.{SpanCodes}
 use Rattle.settings.specs.declared.times.SpanCode.{SpanCode}
 use Rattle.settings.specs.declared.times.SpanCode.the-variants as SpanCode
 use Rattle.settings.specs.declared.times.Scale.{Scale}
+use Rattle.settings.specs.declared.times.ScaleCodes.{ScaleCodes}
 use Rattle.settings.specs.declared.times.ScaleCode.{ScaleCode}
 use Rattle.settings.specs.declared.times.ScaleCode.the-variants as ScaleCode
 use Rattle.settings.specs.declared.record.Smooth.{Smooth}
@@ -81,19 +85,15 @@ module _ {A : Type 0} (u : A) where
 
 -- ---- whole records
 
-unfoldable pub settingsAt : SettingsCodes → SettingsCode
-settingsAt c =
-    let u = SettingsCode.Unknown in
-    withKind u (lfoTypeAt (c .kind)) λ kind.
-    withMode u (modeAt (c .mode)) λ mode.
-    withDirection u (directionAt (c .direction)) λ direction.
-    withRate u (rateAt (c .rate)) λ rate.
-    withYesNo u (yesNoAt (c .«song_lock»)) λ lock.
-    withYesNo u (yesNoAt (c .swing)) λ swing.
-    withSpan u (spanAt (c .«fade_in»)) λ fadeIn.
-    withSpan u (spanAt (c .delay)) λ delay.
-    withSmooth u (smoothAt (c .smooth)) λ smooth.
-    withYesNo u (yesNoAt (c .«phase_snap»)) λ snap.
+abbrev unknown : SettingsCode
+unknown = SettingsCode.Unknown
+
+-- the spans and the coefficient, with the rest known
+unfoldable pub withSpans : LfoType → Mode → Direction → Rate → Bool → Bool → Bool → SettingsCodes → SettingsCode
+withSpans kind mode direction rate lock swing snap c =
+    withSpan unknown (spanAt (c .«fade_in»)) λ fade.
+    withSpan unknown (spanAt (c .delay)) λ delay.
+    withSmooth unknown (smoothAt (c .smooth)) λ smooth.
     SettingsCode.Known
     (record {
       kind = kind;
@@ -102,7 +102,7 @@ settingsAt c =
       rate = rate;
       «song_lock» = lock;
       swing = swing;
-      «fade_in» = fadeIn;
+      «fade_in» = fade;
       delay = delay;
       smooth = smooth;
       phase = c .phase;
@@ -110,11 +110,24 @@ settingsAt c =
       «grid_x» = c .«grid_x»;
     })
 
+-- each yes or no, with the choices known
+unfoldable pub withSwitches : LfoType → Mode → Direction → Rate → SettingsCodes → SettingsCode
+withSwitches kind mode direction rate c =
+    withYesNo unknown (yesNoAt (c .«song_lock»)) λ lock.
+    withYesNo unknown (yesNoAt (c .swing)) λ swing.
+    withYesNo unknown (yesNoAt (c .«phase_snap»)) λ snap. withSpans kind mode direction rate lock swing snap c
+
+unfoldable pub settingsAt : SettingsCodes → SettingsCode
+settingsAt c =
+    withKind unknown (lfoTypeAt (c .kind)) λ kind.
+    withMode unknown (modeAt (c .mode)) λ mode.
+    withDirection unknown (directionAt (c .direction)) λ direction.
+    withRate unknown (rateAt (c .rate)) λ rate. withSwitches kind mode direction rate c
+
 unfoldable pub transportAt : TransportCodes → TransportCode
 transportAt c =
-    let u = TransportCode.Unknown in
-    withYesNo u (yesNoAt (c .playing)) λ playing.
-    withScale u (scaleAt (c .scale)) λ scale.
+    withYesNo TransportCode.Unknown (yesNoAt (c .playing)) λ playing.
+    withScale TransportCode.Unknown (scaleAt (c .scale)) λ scale.
     TransportCode.Known
     (record {
       «sample_rate» = c .«sample_rate»;
@@ -126,3 +139,42 @@ transportAt c =
       swing = c .swing;
       scale = scale;
     })
+
+-- ---- the same as a test: "kind 0 to 4, mode, direction and feel 0 to 2, division 0 to 14, rate and scale 0 or 1, span 0 to 2, each yes or no 1 or 0"
+
+abbrev pub rateKnown : RateCodes → Bool
+rateKnown c = cond (eqb (c .code) 0) (ltb (c .division) 15 && ltb (c .feel) 3) (eqb (c .code) 1 && ltb (c .x10) 2)
+
+abbrev pub spanKnown : SpanCodes → Bool
+spanKnown c = cond (eqb (c .code) 1) (ltb (c .division) 15) (ltb (c .code) 3)
+
+abbrev pub scaleKnown : ScaleCodes → Bool
+scaleKnown c = ltb (c .code) 2
+
+abbrev pub smoothKnown : SmoothCodes → Bool
+smoothKnown c = ltb (c .code) 2
+
+unfoldable pub settingsKnown : SettingsCodes → Bool
+settingsKnown c =
+    ltb (c .kind) 5
+    && ltb (c .mode) 3
+    && ltb (c .direction) 3
+    && rateKnown (c .rate)
+    && ltb (c .«song_lock») 2
+    && ltb (c .swing) 2
+    && ltb (c .«phase_snap») 2
+    && spanKnown (c .«fade_in»)
+    && spanKnown (c .delay)
+    && smoothKnown (c .smooth)
+
+unfoldable pub transportKnown : TransportCodes → Bool
+transportKnown c = ltb (c .playing) 2 && scaleKnown (c .scale)
+
+-- whether there is an answer
+abbrev pub isSettings : SettingsCode → Bool
+isSettings (SettingsCode.Known s) = true
+isSettings SettingsCode.Unknown = false
+
+abbrev pub isTransport : TransportCode → Bool
+isTransport (TransportCode.Known t) = true
+isTransport TransportCode.Unknown = false
