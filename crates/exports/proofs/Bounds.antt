@@ -15,7 +15,7 @@ use Rattle.settings.specs.declared.record.SettingsCode.the-variants as Settings
 use Rattle.settings.specs.declared.record.Transport.{Transport}
 use Rattle.settings.specs.declared.record.TransportCode.{TransportCode}
 use Rattle.settings.specs.declared.record.TransportCode.the-variants as TransportCode
-use Rattle.clock.specs.Anchor.{countOf}
+use Rattle.clock.specs.Anchor.{sampleCount}
 use Rattle.clock.specs.Block.{freeCount}
 use Rattle.clock.specs.Free.{restartedClock, anchoredClock, tickedOf}
 use Rattle.clock.specs.Ready.{lockAt, tickedAt, blockOf, preparedOf}
@@ -48,7 +48,7 @@ count-small w i = small (getD w i 0)
     small n = omega arith
 
 -- Samples, Beats or Seconds, by a code
-picked-small : (code : ℕ) (x y z : Anchor) → countOf x < 2 ^ 62 → countOf y < 2 ^ 62 → countOf z < 2 ^ 62 → countOf (getD (x ∷ y ∷ []) code z) < 2 ^ 62
+picked-small : (code : ℕ) (x y z : Anchor) → sampleCount x < 2 ^ 62 → sampleCount y < 2 ^ 62 → sampleCount z < 2 ^ 62 → sampleCount (getD (x ∷ y ∷ []) code z) < 2 ^ 62
 picked-small zero x y z p q r = p
 picked-small (suc zero) x y z p q r = q
 picked-small (suc (suc code)) x y z p q r = r
@@ -57,7 +57,7 @@ clock-small : (w : List ℕ) → clockFrom w .n < 2 ^ 62
 unfolding clockFrom
 clock-small w = count-small w 31
 
-anchor-small : (w : List ℕ) → countOf (anchorFrom w) < 2 ^ 62
+anchor-small : (w : List ℕ) → sampleCount (anchorFrom w) < 2 ^ 62
 unfolding anchorFrom
 anchor-small w = picked-small (getD w 36 0) _ _ _ (count-small w 38) (lit≤ tt) (lit≤ tt)
 

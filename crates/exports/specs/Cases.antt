@@ -19,7 +19,7 @@ use Rattle.settings.specs.declared.record.Transport.{Transport}
 use Rattle.settings.specs.declared.record.TransportCodes.{TransportCodes}
 use Rattle.settings.specs.declared.record.TransportCode.{TransportCode}
 use Rattle.settings.specs.declared.record.TransportCode.the-variants as TransportCode
-use Rattle.clock.specs.Anchor.{countOf}
+use Rattle.clock.specs.Anchor.{sampleCount}
 use Rattle.clock.specs.declared.anchor.Anchor.{Anchor}
 use Rattle.clock.specs.declared.anchor.Anchor.the-variants.{Samples, Beats, Seconds}
 use Rattle.clock.specs.declared.free.Clock.{Clock}
@@ -139,5 +139,5 @@ caseOf w =
 pub record Bounded (c : Case) : Type 0 where
   pub clock-count : c .clock .n < 2 ^ 62
   pub frame-count : c .frames < 2 ^ 62
-  pub anchor-count : countOf (c .anchor) < 2 ^ 62
+  pub anchor-count : sampleCount (c .anchor) < 2 ^ 62
   pub sample-count : c .at < 2 ^ 62

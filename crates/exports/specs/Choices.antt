@@ -53,9 +53,6 @@ yesNumber false = 0
 abbrev pub divisionNumber : Division → ℕ
 divisionNumber d = d .0
 
-abbrev pub divisionBy : ℕ → Division
-divisionBy k = record { 0 = k }
-
 -- `f` of a known choice; and of one that is not known `u`
 module _ {A : Type 0} (u : A) where
   abbrev pub withFeel : FeelCode → (Feel → A) → A

@@ -3,9 +3,10 @@ use Prim.Native.Nat.{ℕ}
 use mathlib.Core.List.{List, [], _∷_}
 use lib.ListN.{getD}
 use lib.Ieee.{Float, binary32, binary64, toBits}
+use Rattle.settings.specs.Records.{advancedTransport}
 use Rattle.settings.specs.declared.record.Settings.{Settings}
-use Rattle.clock.specs.Position.{positionOf, swungBy}
-use Rattle.clock.specs.Anchor.{advanced, startedOf, begunOf, cyclesAt}
+use Rattle.position.specs.Position.{positionOf, swungBy}
+use Rattle.clock.specs.Anchor.{nextAnchor, startedOf, begunOf, cyclesAt}
 use Rattle.clock.specs.Spans.{samplesOf}
 use Rattle.clock.specs.Ready.{preparedOf, phaseRead}
 use Rattle.clock.specs.declared.anchor.Anchor.{Anchor}
@@ -15,8 +16,8 @@ use Rattle.clock.specs.declared.block.FreeClock.{FreeClock}
 use Rattle.clock.specs.declared.block.FreeClock.the-variants as FreeClock
 use Rattle.clock.specs.declared.block.SongLock.{SongLock}
 use Rattle.clock.specs.declared.block.SongLock.the-variants as SongLock
-use Rattle.clock.specs.declared.block.Swing.{Swing}
-use Rattle.clock.specs.declared.block.Swing.the-variants as Swing
+use Rattle.position.specs.declared.swing.Swing.{Swing}
+use Rattle.position.specs.declared.swing.Swing.the-variants as Swing
 use Rattle.clock.specs.declared.free.Clock.{Clock}
 use Rattle.clock.specs.declared.ready.Prepared.{Prepared}
 use Rattle.exports.specs.Choices.{kindNumber, modeNumber, directionNumber, yesNumber, rateWords, spanWords, smoothWords}
@@ -147,7 +148,7 @@ spansOf c =
 unfoldable pub anchorsOf : Case → List (List ℕ)
 anchorsOf c =
     let b = preparedBy c .block in
-    anchorWords (begunOf (c .anchor) b (c .at)) ∷ anchorWords (startedOf b) ∷ anchorWords (advanced (c .anchor)) ∷ []
+    anchorWords (begunOf (c .anchor) b (c .at)) ∷ anchorWords (startedOf b) ∷ anchorWords (nextAnchor (c .anchor)) ∷ []
 
 -- the cycle count at the sample, the count after swing, the position, and the phase read after the block
 unfoldable pub countsOf : Case → List ℕ
@@ -161,3 +162,7 @@ countsOf c =
     ∷ bits64 (positionOf (s .mode) (s .direction) swung (c .loopback))
     ∷ bits32 (phaseRead s (preparedBy c .clock) (c .anchor) (c .transport))
     ∷ []
+
+-- the song position in beats and in seconds after the block
+unfoldable pub advancedOf : Case → List ℕ
+advancedOf c = let t = advancedTransport (c .transport) (c .frames) in bits64 (t .beats) ∷ bits64 (t .seconds) ∷ []

@@ -5,20 +5,20 @@ use mathlib.Core.List.{List, [], _∷_}
 use lib.Dec.{eqb}
 use lib.ListN.{getD}
 use lib.Ieee.{Float, nan}
-use Rattle.shape.specs.declared.Coordinates.{Coordinates}
+use Rattle.points.specs.declared.Coordinates.{Coordinates}
 use Rattle.shape.specs.declared.Shape.{Shape}
-use Rattle.shape.specs.declared.points.Point.{Point}
-use Rattle.shape.specs.declared.points.PointMod.{PointMod}
-use Rattle.shape.specs.declared.points.PointMod.the-variants.{None, Bus}
-use Rattle.shape.specs.declared.segments.Segment.{Segment}
-use Rattle.shape.specs.Tables.{tabulate}
-use Rattle.shape.specs.Segments.{drawnSegment, evalOf}
+use Rattle.shape.specs.declared.sorting.Point.{Point}
+use Rattle.points.specs.declared.PointMod.{PointMod}
+use Rattle.points.specs.declared.PointMod.the-variants.{None, Bus}
+use Rattle.shape_segments.specs.declared.Segment.{Segment}
+use Rattle.listlaws.specs.Tables.{tabulate}
+use Rattle.shape_segments.specs.Segments.{drawnSegment, evalOf}
 use Rattle.shape.specs.Shapes.{newShape, curvesOf, modulatedOf}
 use Rattle.path.specs.declared.Path.{Path}
 use Rattle.path.specs.declared.PathPoint.{PathPoint}
-use Rattle.path.specs.declared.segments.PathSegment.{PathSegment}
-use Rattle.path.specs.declared.segments.Xy.{Xy}
-use Rattle.path.specs.Segments.{pathSegment, pathEval}
+use Rattle.path_segments.specs.declared.PathSegment.{PathSegment}
+use Rattle.path_segments.specs.declared.Xy.{Xy}
+use Rattle.path_segments.specs.Segments.{pathSegment, pathEval}
 use Rattle.path.specs.Paths.{pathOf, bendsOf, modulatedPath}
 
 -- ---- points

@@ -9,7 +9,8 @@ use Rattle.number.specs.declared.Reading.the-variants.{Number, CutShort, Bad}
 use Rattle.number.specs.declared.Writing.{Writing}
 use Rattle.number.specs.declared.Writing.the-variants.{Next, NoRoom}
 use Rattle.number.specs.Encoded.{encoded}
-use Rattle.number.specs.Write.{over, hasRoom}
+use Rattle.listlaws.specs.Over.{over}
+use Rattle.number.specs.Write.{hasRoom}
 
 -- what was found, the number, and the place after it
 abbrev pub readingWords : Reading → List ℕ

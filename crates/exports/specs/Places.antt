@@ -4,9 +4,9 @@ use mathlib.Core.Bool.{Bool, true, false}
 use lib.Ieee.{Float, nan}
 use Rattle.settings.specs.Choices.{modeAt, directionAt}
 use Rattle.settings.specs.Codes.{withMode, withDirection}
-use Rattle.clock.specs.Position.{positionOf}
-use Rattle.clock.specs.declared.place.LoopPoint.{LoopPoint}
-use Rattle.clock.specs.declared.place.LoopPoint.the-variants.{None, At}
+use Rattle.position.specs.Position.{positionOf}
+use Rattle.position.specs.declared.place.LoopPoint.{LoopPoint}
+use Rattle.position.specs.declared.place.LoopPoint.the-variants.{None, At}
 
 abbrev pub loopPointOf : Bool → Float → LoopPoint
 loopPointOf true at = At at

@@ -19,7 +19,7 @@ use crate::places::loop_point;
 use crate::reads;
 use clock::Anchor;
 use clock::Clock;
-use clock::LoopPoint;
+use position::LoopPoint;
 use settings::RateCodes;
 use settings::ScaleCodes;
 use settings::Settings;

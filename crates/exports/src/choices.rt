@@ -24,7 +24,7 @@ ghost use Rattle.settings.specs.Choices.{lfoTypeAt, modeAt, directionAt, feelAt
 ghost use Rattle.settings.specs.Divisions.{divisionAt, nearestDivision, knobOf, storedOf, beatsOf};
 ghost use Rattle.settings.specs.Times.{hzAt, spanAtIndex, scaleAt, scaleFactor};
 ghost use Rattle.settings.specs.Codes.{withKind, withMode, withDirection, withYesNo, withScale};
-ghost use Rattle.exports.specs.Choices.{kindNumber, modeNumber, directionNumber, feelNumber, yesNumber, withFeel, withDivision, divisionNumber, divisionBy, rateWord, spanWord, smoothWord};
+ghost use Rattle.exports.specs.Choices.{kindNumber, modeNumber, directionNumber, feelNumber, yesNumber, withFeel, withDivision, divisionNumber, rateWord, spanWord, smoothWord};
 
 pub fn kind_number(k: LfoType) -> u64
     ensures { λ r. ⌜ r ≡ kindNumber k ⌝ }
@@ -77,7 +77,7 @@ pub fn yes_number(b: bool) -> u64
 fn division_number(d: Division) -> u64
     ensures { λ r. ⌜ r ≡ divisionNumber d ⌝ }
 {
-    d.0 as u64
+    d.index() as u64
 }
 
 // ---- codes
@@ -193,23 +193,32 @@ pub extern "C" fn division_from_normalised(n: f32) -> u64
 
 #[no_mangle]
 pub extern "C" fn division_normalised(index: u8) -> f32
-    ensures { λ r. ⌜ r ≡ knobOf (divisionBy index) ⌝ }
+    ensures { λ r. ⌜ r ≡ withDivision nan (divisionAt index) knobOf ⌝ }
 {
-    Division(index).normalised()
+    match Division::new(index) {
+        DivisionCode::Known(d) => d.normalised(),
+        DivisionCode::Unknown => reads::nan(),
+    }
 }
 
 #[no_mangle]
 pub extern "C" fn division_stored(index: u8) -> f32
-    ensures { λ r. ⌜ r ≡ storedOf (divisionBy index) ⌝ }
+    ensures { λ r. ⌜ r ≡ withDivision nan (divisionAt index) storedOf ⌝ }
 {
-    Division(index).stored()
+    match Division::new(index) {
+        DivisionCode::Known(d) => d.stored(),
+        DivisionCode::Unknown => reads::nan(),
+    }
 }
 
 #[no_mangle]
 pub extern "C" fn division_beats(index: u8, beats_per_bar: f64) -> f64
-    ensures { λ r. ⌜ r ≡ beatsOf (divisionBy index) «beats_per_bar» ⌝ }
+    ensures { λ r. ⌜ r ≡ withDivision nan (divisionAt index) (λ d. beatsOf d «beats_per_bar») ⌝ }
 {
-    Division(index).beats(beats_per_bar)
+    match Division::new(index) {
+        DivisionCode::Known(d) => d.beats(beats_per_bar),
+        DivisionCode::Unknown => reads::nan_f64(),
+    }
 }
 
 // ---- rates, spans and coefficients: their code, and then the fields of `RateCodes`, `SpanCodes` and `SmoothCodes`; those of another

@@ -11,12 +11,11 @@ use clock::Clock;
 use clock::FreeClock;
 use clock::Prepared;
 use clock::SongLock;
-use clock::Swing;
+use position::Swing;
 use settings::Settings;
 ghost use mathlib.Core.Path.{_≡_};
-ghost use Rattle.clock.specs.Position.{swungBy};
 ghost use Rattle.exports.specs.Cases.{caseOf, Bounded};
-ghost use Rattle.exports.specs.Clocks.{lockWord, freeWord, swingWord, clockWord, anchorWord, numberWord, blockWord, choiceWord, settingsWord, preparedBy, spansOf, anchorsOf, countsOf, wordAt, groupAt, withCase};
+ghost use Rattle.exports.specs.Clocks.{lockWord, freeWord, swingWord, clockWord, anchorWord, numberWord, blockWord, choiceWord, settingsWord, preparedBy, spansOf, anchorsOf, countsOf, advancedOf, wordAt, groupAt, withCase};
 
 fn lock_word(lock: SongLock, which: usize) -> u64
     ensures { λ r. ⌜ r ≡ lockWord lock which ⌝ }
@@ -222,7 +221,7 @@ fn anchors_word(c: Case, group: usize, which: usize) -> u64
     match group {
         0 => anchor_word(anchor.begun(block, c.at), which),
         1 => anchor_word(Anchor::started(block), which),
-        2 => anchor_word(anchor.advanced(), which),
+        2 => anchor_word(anchor.next(), which),
         _ => 0,
     }
 }
@@ -234,15 +233,6 @@ pub extern "C" fn clock_anchor(words: &[u64], group: usize, which: usize) -> u64
     match case_of(words) {
         CaseCode::Known(c) => anchors_word(c, group, which),
         CaseCode::Unknown => 0,
-    }
-}
-
-fn swung_by(swing: Swing, c: f64) -> f64
-    ensures { λ r. ⌜ r ≡ swungBy swing c ⌝ }
-{
-    match swing {
-        Swing::Off => c,
-        Swing::First(first) => clock::swung(c, first),
     }
 }
 
@@ -262,8 +252,8 @@ fn counts_word(c: Case, which: usize) -> u64
     let transport = c.transport;
     let swing = block.swing;
     let cycles = clock::cycles(mode, block, anchor, c.at);
-    let swung = swung_by(swing, cycles);
-    let position = clock::position(mode, direction, swung, loopback);
+    let swung = swing.swung(cycles);
+    let position = position::position(mode, direction, swung, loopback);
     let phase = clock::phase(settings, after, anchor, transport);
     let words = [
         reads::bits_of_f64(cycles),
@@ -351,6 +341,29 @@ pub extern "C" fn clock_known(words: &[u64]) -> u64
 {
     match case_of(words) {
         CaseCode::Known(_) => 1,
+        CaseCode::Unknown => 0,
+    }
+}
+
+// The song position moved on by the frames of the case. Which: 0, beats; 1, seconds.
+fn advanced_word(c: Case, which: usize) -> u64
+    ensures { λ r. ⌜ r ≡ wordAt (advancedOf c) which ⌝ }
+{
+    let transport = c.transport;
+    let after = transport.advance(c.frames);
+    let words = [
+        reads::bits_of_f64(after.beats),
+        reads::bits_of_f64(after.seconds),
+    ];
+    reads::word(&words, which)
+}
+
+#[no_mangle]
+pub extern "C" fn transport_advance(words: &[u64], which: usize) -> u64
+    ensures { λ r. ⌜ r ≡ withCase 0 (caseOf (now (words .entry))) (λ c. wordAt (advancedOf c) which) ⌝ }
+{
+    match case_of(words) {
+        CaseCode::Known(c) => advanced_word(c, which),
         CaseCode::Unknown => 0,
     }
 }

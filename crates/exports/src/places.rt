@@ -1,6 +1,6 @@
 // Swing and position.
 use crate::reads;
-use clock::LoopPoint;
+use position::LoopPoint;
 use settings::Direction;
 use settings::DirectionCode;
 use settings::Mode;
@@ -9,14 +9,14 @@ ghost use mathlib.Core.Path.{_≡_};
 ghost use lib.Ieee.{nan};
 ghost use Rattle.settings.specs.Choices.{modeAt, directionAt};
 ghost use Rattle.settings.specs.Codes.{withMode, withDirection};
-ghost use Rattle.clock.specs.Position.{swungOf, positionOf};
+ghost use Rattle.position.specs.Position.{swungOf, positionOf};
 ghost use Rattle.exports.specs.Places.{loopPointOf, positionAt};
 
 #[no_mangle]
 pub extern "C" fn position_swung(c: f64, first: f64) -> f64
     ensures { λ r. ⌜ r ≡ swungOf c first ⌝ }
 {
-    clock::swung(c, first)
+    position::swung(c, first)
 }
 
 // A One-shot's loopback point, if there is one.
@@ -40,5 +40,5 @@ pub extern "C" fn position_at(mode: u64, direction: u64, c: f64, looped: bool, a
     let DirectionCode::Known(d) = Direction::from_code(direction) else {
         return reads::nan_f64();
     };
-    clock::position(m, d, c, loop_point(looped, at))
+    position::position(m, d, c, loop_point(looped, at))
 }

@@ -11,8 +11,8 @@ use Rattle.exports.specs.Clocks.{anchorWord, anchorsOf}
 use Rattle.exports.proofs.clocks.anchors_word.Statement.{statement}
 use Rattle.exports.proofs.clocks.anchors_word.Tie as tie
 
-advanced-requires : tie.Need-advanced-requires
-advanced-requires c κs = omega (arith, c .before .before .before .pre .anchor-count)
+next-requires : tie.Need-next-requires
+next-requires c κs = omega (arith, c .before .before .before .pre .anchor-count)
 
 returns : tie.Need-returns
 unfolding anchorsOf
@@ -33,7 +33,7 @@ unfolding anchorsOf
 returns-3 c =
     let a = c .before .before .before .before .before .args in
     rw (c .before .before .match .keys3)
-    (c .anchor-word3 .ensures ∙ ap (λ (x : Anchor). anchorWord x (a .which)) (c .before .advanced .ensures))
+    (c .anchor-word3 .ensures ∙ ap (λ (x : Anchor). anchorWord x (a .which)) (c .before .next .ensures))
 
 returns-4 : tie.Need-returns-4
 unfolding anchorsOf
@@ -48,7 +48,7 @@ anchors-word-spec =
     (λ c κs. search needs)
     (λ c κs. search needs)
     (λ c κs. search needs)
-    advanced-requires
+    next-requires
     (λ c κs. search needs)
     returns
     returns-2

@@ -6,7 +6,7 @@ use Prim.Native.Nat.{ℕ, _+_, _<_, _≤_, _^_}
 use native.Mathlib.Omega.{arith}
 use lib.Ieee.{Float}
 use lib.ListN.{getD}
-use Rattle.clock.specs.Position.{positionOf, swungBy}
+use Rattle.position.specs.Position.{positionOf, swungBy}
 use Rattle.clock.specs.Anchor.{cyclesAt}
 use Rattle.clock.specs.Block.{freeCount}
 use Rattle.clock.specs.Ready.{phaseRead}
@@ -46,7 +46,7 @@ cycles-requires c κs = room (c .before .before .before .before .before .args .c
 
 returns : tie.Need-returns
 returns c =
-    together (c .before .before .before .before .before .before .before .before .before .before .before .before .before .before .before .args .c) _ _ _ _ _ _ _ _ _ _ (c .before .before .before .before .before .before .before .before .before .before .before .before .before .before .before .args .which) (c .before .before .before .before .before .before .before .before .before .before .before .before .before .before .prepared .ensures) (c .before .before .before .before .before .before .before .before .before .cycles .ensures) (c .before .before .before .before .before .before .before .before .swung-by .ensures) (c .before .before .before .before .before .before .before .position .ensures) (c .before .before .before .before .before .before .phase .ensures)
+    together (c .before .before .before .before .before .before .before .before .before .before .before .before .before .before .before .args .c) _ _ _ _ _ _ _ _ _ _ (c .before .before .before .before .before .before .before .before .before .before .before .before .before .before .before .args .which) (c .before .before .before .before .before .before .before .before .before .before .before .before .before .before .prepared .ensures) (c .before .before .before .before .before .before .before .before .before .cycles .ensures) (c .before .before .before .before .before .before .before .before .swung .ensures) (c .before .before .before .before .before .before .before .position .ensures) (c .before .before .before .before .before .before .phase .ensures)
     (c .before .before .before .before .before .bits-of-f64 .ensures) (c .before .before .before .before .bits-of-f642 .ensures) (c .before .before .before .bits-of-f643 .ensures) (c .before .before .bits-of-f32 .ensures) (c .word .ensures)
 
 pub counts-word-spec : {M : Type 1} → statement M

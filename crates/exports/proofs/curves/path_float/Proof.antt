@@ -3,7 +3,7 @@ use borrow.Author.Needs.{needs}
 use mathlib.Core.Path.{ap, _∙_}
 use lib.Ieee.{nan}
 use lib.ListN.{getD}
-use Rattle.path.specs.declared.segments.Xy.{Xy}
+use Rattle.path_segments.specs.declared.Xy.{Xy}
 use Rattle.exports.specs.Curves.{pathFloats, pathFloat}
 use Rattle.exports.proofs.curves.path_float.Statement.{statement}
 use Rattle.exports.proofs.curves.path_float.Tie as tie

@@ -5,7 +5,7 @@ use mathlib.Core.List.{List}
 use Prim.Native.Nat.{ℕ}
 use lib.Ieee.{Float}
 use Rattle.path.specs.declared.Path.{Path}
-use Rattle.path.specs.declared.segments.PathSegment.{PathSegment}
+use Rattle.path_segments.specs.declared.PathSegment.{PathSegment}
 use Rattle.exports.specs.Curves.{pathSegmentOn, pathFloat}
 use Rattle.exports.proofs.curves.path_segment.Statement.{statement}
 use Rattle.exports.proofs.curves.path_segment.Tie as tie

@@ -3,10 +3,10 @@ use borrow.Author.Needs.{needs}
 use mathlib.Core.Path.{_≡_}
 use mathlib.Core.List.{List}
 use lib.Ieee.{Float}
-use Rattle.shape.specs.declared.Coordinates.{Coordinates}
+use Rattle.points.specs.declared.Coordinates.{Coordinates}
 use Rattle.path.specs.declared.Path.{Path}
-use Rattle.path.specs.declared.segments.PathSegment.{PathSegment}
-use Rattle.path.specs.Segments.{pathSegment}
+use Rattle.path_segments.specs.declared.PathSegment.{PathSegment}
+use Rattle.path_segments.specs.Segments.{pathSegment}
 use Rattle.path.specs.Paths.{modulatedPath, bendsOf}
 use Rattle.exports.specs.Curves.{pathSegmentOn}
 use Rattle.exports.proofs.curves.path_segment_on.Statement.{statement}

@@ -2,7 +2,7 @@
 use borrow.Author.Needs.{needs}
 use mathlib.Core.Path.{ap, _∙_}
 use Rattle.path.specs.declared.Path.{Path}
-use Rattle.path.specs.declared.segments.Xy.{Xy}
+use Rattle.path_segments.specs.declared.Xy.{Xy}
 use Rattle.path.specs.Paths.{pathValue}
 use Rattle.exports.specs.Curves.{xyFloat}
 use Rattle.exports.proofs.curves.path_value.Statement.{statement}

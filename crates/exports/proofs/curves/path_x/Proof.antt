@@ -5,7 +5,7 @@ use mathlib.Core.List.{List}
 use Prim.Native.Nat.{ℕ}
 use lib.Ieee.{Float, nan}
 use lib.ListN.{getD}
-use Rattle.shape.specs.declared.Coordinates.{Coordinates}
+use Rattle.points.specs.declared.Coordinates.{Coordinates}
 use Rattle.path.specs.declared.Path.{Path}
 use Rattle.exports.specs.Curves.{pathMoved}
 use Rattle.exports.proofs.curves.path_x.Statement.{statement}

@@ -3,11 +3,11 @@ use borrow.Author.Needs.{needs}
 use mathlib.Core.Path.{_≡_}
 use mathlib.Core.List.{List}
 use lib.Ieee.{Float}
-use Rattle.shape.specs.declared.Coordinates.{Coordinates}
+use Rattle.points.specs.declared.Coordinates.{Coordinates}
 use Rattle.shape.specs.declared.Curves.{Curves}
 use Rattle.shape.specs.declared.Shape.{Shape}
-use Rattle.shape.specs.declared.segments.Segment.{Segment}
-use Rattle.shape.specs.Segments.{drawnSegment}
+use Rattle.shape_segments.specs.declared.Segment.{Segment}
+use Rattle.shape_segments.specs.Segments.{drawnSegment}
 use Rattle.shape.specs.Shapes.{modulatedOf, curvesOf}
 use Rattle.exports.specs.Curves.{segmentOn}
 use Rattle.exports.proofs.curves.segment_on.Statement.{statement}

@@ -5,7 +5,7 @@ use mathlib.Core.List.{List}
 use Prim.Native.Nat.{ℕ}
 use lib.Ieee.{Float}
 use Rattle.shape.specs.declared.Shape.{Shape}
-use Rattle.shape.specs.declared.segments.Segment.{Segment}
+use Rattle.shape_segments.specs.declared.Segment.{Segment}
 use Rattle.exports.specs.Curves.{segmentOn, segmentFloat}
 use Rattle.exports.proofs.curves.shape_segment.Statement.{statement}
 use Rattle.exports.proofs.curves.shape_segment.Tie as tie

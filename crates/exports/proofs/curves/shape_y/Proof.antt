@@ -5,7 +5,7 @@ use mathlib.Core.List.{List}
 use Prim.Native.Nat.{ℕ}
 use lib.Ieee.{Float, nan}
 use lib.ListN.{getD}
-use Rattle.shape.specs.declared.Coordinates.{Coordinates}
+use Rattle.points.specs.declared.Coordinates.{Coordinates}
 use Rattle.shape.specs.declared.Shape.{Shape}
 use Rattle.exports.specs.Curves.{shapeMoved}
 use Rattle.exports.proofs.curves.shape_y.Statement.{statement}
