@@ -57,13 +57,11 @@ fn index(t: &mut Tally, k: u8) {
     let input = |name: &'static str| move || format!("{name} of {k}");
     let new = Division::new(k).map_or(UNKNOWN, |d| d.index().into());
     t.word(ffi::division_new(k), new, input("Division::new"));
-    let d = Division::open_(k);
-    t.f32(
-        ffi::division_normalised(k),
-        d.normalised(),
-        input("normalised"),
-    );
-    t.f32(ffi::division_stored(k), d.stored(), input("stored"));
+    let d = Division::new(k);
+    let normalised = d.map_or(f32::NAN, Division::normalised);
+    t.f32(ffi::division_normalised(k), normalised, input("normalised"));
+    let stored = d.map_or(f32::NAN, Division::stored);
+    t.f32(ffi::division_stored(k), stored, input("stored"));
     for (which, word) in span_words(Span::from_index(k)).into_iter().enumerate() {
         t.word(
             ffi::span_from_index(k, which),
@@ -74,7 +72,7 @@ fn index(t: &mut Tally, k: u8) {
 }
 
 fn beats(t: &mut Tally, k: u8, bar: f64) {
-    let rust = Division::open_(k).beats(bar);
+    let rust = Division::new(k).map_or(f64::NAN, |d| d.beats(bar));
     t.f64(ffi::division_beats(k, bar), rust, || {
         format!("beats of {k}, {bar:e} to the bar")
     });

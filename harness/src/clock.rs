@@ -286,6 +286,7 @@ fn one_block(
     case.counts(&begun, loopback);
     case.next(&begun);
     settings(case.t, v, &case.words);
+    let words = case.words;
     *voice = begun;
     if v.one_in(4) {
         lfo.trigger(&block, voice);
@@ -295,6 +296,20 @@ fn one_block(
         voice.set_anchor_([code, c0, n + frames as u64, rate]);
     }
     transport.advance(frames);
+    advanced(t, &words, transport);
+}
+
+// The transport after the block.
+fn advanced(t: &mut Tally, words: &Words, after: &Transport) {
+    for (which, word) in [after.beats, after.seconds]
+        .map(bits64)
+        .into_iter()
+        .enumerate()
+    {
+        t.word(ffi::transport_advance(&words.0, which), word, || {
+            format!("word {which} of the transport after, words {:x?}", words.0)
+        });
+    }
 }
 
 // ---- settings from codes
@@ -359,7 +374,7 @@ fn settings(t: &mut Tally, v: &mut Values, words: &Words) {
     }
 }
 
-// What is stored of known settings: the same choices, and each number in its range where they are clamped.
+// What is stored of known settings: the same choices, and where they are clamped each number in its range and 13 for a span of 14.
 fn stored(w: &[u64; 44]) -> [[u64; 8]; 5] {
     let clamped = |bits: u64, top: f32| {
         if w[41] == 0 {
@@ -374,9 +389,10 @@ fn stored(w: &[u64; 44]) -> [[u64; 8]; 5] {
     } else {
         [1, 0, 0, clamped(w[6], top), w[7], 0, 0, 0]
     };
+    let division = |d: u64| if w[41] != 0 && d == 14 { 13 } else { d };
     let span = |at: usize| match w[at] {
         0 => [0; 8],
-        1 => [1, w[at + 1], 0, 0, 0, 0, 0, 0],
+        1 => [1, division(w[at + 1]), 0, 0, 0, 0, 0, 0],
         _ => [2, 0, clamped(w[at + 2], 32.0), 0, 0, 0, 0, 0],
     };
     let smooth = if w[16] == 0 {

@@ -110,6 +110,7 @@ on_slices! {
     clock_spans(words: [u64]; which: usize) -> u64;
     clock_anchor(words: [u64]; group: usize, which: usize) -> u64;
     clock_count(words: [u64]; which: usize) -> u64;
+    transport_advance(words: [u64]; which: usize) -> u64;
 
     number_read(bytes: [u8]; at: usize, which: usize) -> u64;
     number_read_below(bytes: [u8]; at: usize, limit: u64, which: usize) -> u64;

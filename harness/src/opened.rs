@@ -41,12 +41,6 @@ impl LfoVoice {
     }
 }
 
-impl Division {
-    pub fn open_(index: u8) -> Self {
-        Self(index)
-    }
-}
-
 // shape.rs: segments by their floats, and their values
 impl Lfo {
     pub fn drawn_segment_(shape: &Shape, xs: &[f32], ys: &[f32], x: f32) -> ([f32; 7], f32) {

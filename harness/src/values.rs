@@ -229,7 +229,7 @@ pub const FEELS: [Feel; 3] = [Feel::Straight, Feel::Triplet, Feel::Dotted];
 
 impl Values {
     pub fn division(&mut self) -> Division {
-        Division::open_(self.below(15) as u8)
+        Division::new(self.below(15) as u8).unwrap()
     }
 
     pub fn rate(&mut self) -> Rate {
