@@ -4,6 +4,16 @@ use crate::lfo::{Block, Lfo, LfoType, LfoVoice, Mode, Rate, Scale, Settings, Spa
 use crate::tally::{Tally, bits32, bits64};
 use crate::values::Values;
 
+// The parts of `clock_word`.
+const BLOCK: usize = 0;
+const AFTER: usize = 1;
+const SPANS: usize = 2;
+const ANCHORS: usize = 3;
+const COUNTS: usize = 4;
+const SETTINGS: usize = 5;
+const TRANSPORT: usize = 6;
+const KNOWN: usize = 7;
+
 /// A case as crates/exports takes it (src/cases.rt has the places).
 #[derive(Clone)]
 struct Words([u64; 44]);
@@ -110,26 +120,30 @@ impl Case<'_> {
         let b = self.block;
         let mut numbers = float_words(b.numbers_(), &[1, 2, 3, 4, 5, 6, 7]);
         numbers[8] = bits32(f32::from_bits(numbers[8] as u32));
-        self.compare("block", |w, i| ffi::clock_block(w, 0, i), &numbers);
+        self.compare("block", |w, i| ffi::clock_word(w, BLOCK, 0, i), &numbers);
         self.compare(
             "song lock",
-            |w, i| ffi::clock_block(w, 1, i),
+            |w, i| ffi::clock_word(w, BLOCK, 1, i),
             &float_words(b.song_lock_(), &[1]),
         );
         self.compare(
             "free clock",
-            |w, i| ffi::clock_block(w, 2, i),
+            |w, i| ffi::clock_word(w, BLOCK, 2, i),
             &float_words(b.free_(), &[1]),
         );
         let swing = [b.swing_().is_some().into(), b.swing_().map_or(0, bits64)];
-        self.compare("swing", |w, i| ffi::clock_block(w, 3, i), &swing);
+        self.compare("swing", |w, i| ffi::clock_word(w, BLOCK, 3, i), &swing);
         self.compare(
             "smoothing",
-            |w, i| ffi::clock_block(w, 4, i),
+            |w, i| ffi::clock_word(w, BLOCK, 4, i),
             &smooth_words(b.smooth_()),
         );
         let clock = float_words(self.lfo.clock_(), &[0, 2, 3]);
-        self.compare("clock after", ffi::clock_after, &clock);
+        self.compare(
+            "clock after",
+            |w, i| ffi::clock_word(w, AFTER, 0, i),
+            &clock,
+        );
     }
 
     // Which anchor a stretch begins with and which a restart gives, outside Free mode; in it the Rust leaves the anchor. And delay and fade.
@@ -142,17 +156,21 @@ impl Case<'_> {
         lfo.trigger(self.block, &mut restarted);
         self.compare(
             "anchor of a restart",
-            |w, i| ffi::clock_anchor(w, 1, i),
+            |w, i| ffi::clock_word(w, ANCHORS, 1, i),
             &anchor_words(&restarted),
         );
-        self.compare("delay and fade", ffi::clock_spans, &restarted.spans_());
+        self.compare(
+            "delay and fade",
+            |w, i| ffi::clock_word(w, SPANS, 0, i),
+            &restarted.spans_(),
+        );
         let spans = [lfo.settings.delay, lfo.settings.fade_in].map(|s| s.samples_(self.block));
-        self.compare("spans", ffi::clock_spans, &spans);
+        self.compare("spans", |w, i| ffi::clock_word(w, SPANS, 0, i), &spans);
         let mut begun = voice.clone();
         lfo.begin_(self.block, &mut begun, self.at);
         self.compare(
             "anchor begun",
-            |w, i| ffi::clock_anchor(w, 0, i),
+            |w, i| ffi::clock_word(w, ANCHORS, 0, i),
             &anchor_words(&begun),
         );
         begun
@@ -176,7 +194,11 @@ impl Case<'_> {
             bits64(position),
             bits32(phase),
         ];
-        self.compare("count, swung, position, phase", ffi::clock_count, &counts);
+        self.compare(
+            "count, swung, position, phase",
+            |w, i| ffi::clock_word(w, COUNTS, 0, i),
+            &counts,
+        );
     }
 
     // Sample and hold, so that no segment is searched: a count may be a NaN here.
@@ -187,7 +209,7 @@ impl Case<'_> {
         lfo.stage_(self.block, &mut after, self.at);
         self.compare(
             "anchor after a sample",
-            |w, i| ffi::clock_anchor(w, 2, i),
+            |w, i| ffi::clock_word(w, ANCHORS, 2, i),
             &anchor_words(&after),
         );
     }
@@ -306,7 +328,7 @@ fn advanced(t: &mut Tally, words: &Words, after: &Transport) {
         .into_iter()
         .enumerate()
     {
-        t.word(ffi::transport_advance(&words.0, which), word, || {
+        t.word(ffi::clock_word(&words.0, TRANSPORT, 0, which), word, || {
             format!("word {which} of the transport after, words {:x?}", words.0)
         });
     }
@@ -357,7 +379,7 @@ fn settings(t: &mut Tally, v: &mut Values, words: &Words) {
         w[at] = v.code(count);
     }
     let known = is_known(&w);
-    t.word(ffi::clock_known(&w), known.into(), || {
+    t.word(ffi::clock_word(&w, KNOWN, 0, 0), known.into(), || {
         format!("known, words {w:x?}")
     });
     let rust = if known {
@@ -367,7 +389,7 @@ fn settings(t: &mut Tally, v: &mut Values, words: &Words) {
     };
     for (group, list) in rust.iter().enumerate() {
         for (which, &word) in list.iter().enumerate() {
-            t.word(ffi::clock_settings(&w, group, which), word, || {
+            t.word(ffi::clock_word(&w, SETTINGS, group, which), word, || {
                 format!("word {which} of group {group} of settings, words {w:x?}")
             });
         }

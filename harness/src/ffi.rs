@@ -103,14 +103,7 @@ on_slices! {
     path_y(floats: [f32], bytes: [u8], legs: [f32], buses: [f32]; count: usize, closed: bool, i: usize) -> f32;
     path_time(floats: [f32], bytes: [u8], legs: [f32]; count: usize, closed: bool, j: usize) -> f32;
 
-    clock_known(words: [u64];) -> u64;
-    clock_settings(words: [u64]; group: usize, which: usize) -> u64;
-    clock_block(words: [u64]; group: usize, which: usize) -> u64;
-    clock_after(words: [u64]; which: usize) -> u64;
-    clock_spans(words: [u64]; which: usize) -> u64;
-    clock_anchor(words: [u64]; group: usize, which: usize) -> u64;
-    clock_count(words: [u64]; which: usize) -> u64;
-    transport_advance(words: [u64]; which: usize) -> u64;
+    clock_word(words: [u64]; part: usize, group: usize, which: usize) -> u64;
 
     number_read(bytes: [u8]; at: usize, which: usize) -> u64;
     number_read_below(bytes: [u8]; at: usize, limit: u64, which: usize) -> u64;

@@ -54,8 +54,8 @@ anchorWords (Seconds c0 s0 rate) = 2 ∷ bits64 c0 ∷ bits64 s0 ∷ bits64 rate
 
 -- ---- records
 
-abbrev pub clockWords : Clock → List ℕ
-clockWords k = bits64 (k .c0) ∷ k .n ∷ bits64 (k .inc) ∷ bits64 (k .next) ∷ yesNumber (k .locked) ∷ []
+abbrev pub stateWords : Clock → List ℕ
+stateWords k = bits64 (k .c0) ∷ k .n ∷ bits64 (k .inc) ∷ bits64 (k .next) ∷ yesNumber (k .locked) ∷ []
 
 abbrev pub numberWords : Block → List ℕ
 numberWords b =
@@ -113,8 +113,8 @@ swingWord s which = wordAt (swingWords s) which
 abbrev pub anchorWord : Anchor → ℕ → ℕ
 anchorWord a which = wordAt (anchorWords a) which
 
-unfoldable pub clockWord : Clock → ℕ → ℕ
-clockWord k which = wordAt (clockWords k) which
+unfoldable pub stateWord : Clock → ℕ → ℕ
+stateWord k which = wordAt (stateWords k) which
 
 unfoldable pub numberWord : Block → ℕ → ℕ
 numberWord b which = wordAt (numberWords b) which
@@ -166,3 +166,19 @@ countsOf c =
 -- the song position in beats and in seconds after the block
 unfoldable pub advancedOf : Case → List ℕ
 advancedOf c = let t = advancedTransport (c .transport) (c .frames) in bits64 (t .beats) ∷ bits64 (t .seconds) ∷ []
+
+-- the answers of the parts; the last one is 1, for a case that is known
+unfoldable pub partWords : Case → ℕ → ℕ → List ℕ
+partWords c group which =
+    blockWord (preparedBy c .block) group which
+    ∷ stateWord (preparedBy c .clock) which
+    ∷ wordAt (spansOf c) which
+    ∷ wordAt (groupAt (anchorsOf c) group) which
+    ∷ wordAt (countsOf c) which
+    ∷ settingsWord (c .settings) group which
+    ∷ wordAt (advancedOf c) which
+    ∷ 1
+    ∷ []
+
+unfoldable pub partWord : Case → ℕ → ℕ → ℕ → ℕ
+partWord c part group which = wordAt (partWords c group which) part

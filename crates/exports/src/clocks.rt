@@ -15,7 +15,7 @@ use position::Swing;
 use settings::Settings;
 ghost use mathlib.Core.Path.{_≡_};
 ghost use Rattle.exports.specs.Cases.{caseOf, Bounded};
-ghost use Rattle.exports.specs.Clocks.{lockWord, freeWord, swingWord, clockWord, anchorWord, numberWord, blockWord, choiceWord, settingsWord, preparedBy, spansOf, anchorsOf, countsOf, advancedOf, wordAt, groupAt, withCase};
+ghost use Rattle.exports.specs.Clocks.{lockWord, freeWord, swingWord, stateWord, anchorWord, numberWord, blockWord, choiceWord, settingsWord, preparedBy, spansOf, anchorsOf, countsOf, advancedOf, partWord, wordAt, groupAt, withCase};
 
 fn lock_word(lock: SongLock, which: usize) -> u64
     ensures { λ r. ⌜ r ≡ lockWord lock which ⌝ }
@@ -64,8 +64,8 @@ fn swing_word(swing: Swing, which: usize) -> u64
     }
 }
 
-fn clock_word(k: Clock, which: usize) -> u64
-    ensures { λ r. ⌜ r ≡ clockWord k which ⌝ }
+fn state_word(k: Clock, which: usize) -> u64
+    ensures { λ r. ⌜ r ≡ stateWord k which ⌝ }
 {
     let words = [
         reads::bits_of_f64(k.c0),
@@ -161,33 +161,6 @@ fn prepared(c: Case) -> Prepared
     clock::prepare(settings, clock, transport, c.frames)
 }
 
-#[no_mangle]
-pub extern "C" fn clock_block(words: &[u64], group: usize, which: usize) -> u64
-    ensures { λ r. ⌜ r ≡ withCase 0 (caseOf (now (words .entry))) (λ c. blockWord (preparedBy c .block) group which) ⌝ }
-{
-    match case_of(words) {
-        CaseCode::Known(c) => {
-            let block = prepared(c).block;
-            block_word(block, group, which)
-        }
-        CaseCode::Unknown => 0,
-    }
-}
-
-// The clock after the block.
-#[no_mangle]
-pub extern "C" fn clock_after(words: &[u64], which: usize) -> u64
-    ensures { λ r. ⌜ r ≡ withCase 0 (caseOf (now (words .entry))) (λ c. clockWord (preparedBy c .clock) which) ⌝ }
-{
-    match case_of(words) {
-        CaseCode::Known(c) => {
-            let after = prepared(c).clock;
-            clock_word(after, which)
-        }
-        CaseCode::Unknown => 0,
-    }
-}
-
 // Delay and fade in, in samples.
 fn spans_word(c: Case, which: usize) -> u64
     requires { ⌜ Bounded c ⌝ }
@@ -199,16 +172,6 @@ fn spans_word(c: Case, which: usize) -> u64
     let fade_in = settings.fade_in;
     let words = [clock::samples(delay, block), clock::samples(fade_in, block)];
     reads::word(&words, which)
-}
-
-#[no_mangle]
-pub extern "C" fn clock_spans(words: &[u64], which: usize) -> u64
-    ensures { λ r. ⌜ r ≡ withCase 0 (caseOf (now (words .entry))) (λ c. wordAt (spansOf c) which) ⌝ }
-{
-    match case_of(words) {
-        CaseCode::Known(c) => spans_word(c, which),
-        CaseCode::Unknown => 0,
-    }
 }
 
 // Group 0: the anchor as the block begins at the sample; 1: that of a restart; 2: the anchor after a sample.
@@ -223,16 +186,6 @@ fn anchors_word(c: Case, group: usize, which: usize) -> u64
         1 => anchor_word(Anchor::started(block), which),
         2 => anchor_word(anchor.next(), which),
         _ => 0,
-    }
-}
-
-#[no_mangle]
-pub extern "C" fn clock_anchor(words: &[u64], group: usize, which: usize) -> u64
-    ensures { λ r. ⌜ r ≡ withCase 0 (caseOf (now (words .entry))) (λ c. wordAt (groupAt (anchorsOf c) group) which) ⌝ }
-{
-    match case_of(words) {
-        CaseCode::Known(c) => anchors_word(c, group, which),
-        CaseCode::Unknown => 0,
     }
 }
 
@@ -262,16 +215,6 @@ fn counts_word(c: Case, which: usize) -> u64
         reads::bits_of_f32(phase),
     ];
     reads::word(&words, which)
-}
-
-#[no_mangle]
-pub extern "C" fn clock_count(words: &[u64], which: usize) -> u64
-    ensures { λ r. ⌜ r ≡ withCase 0 (caseOf (now (words .entry))) (λ c. wordAt (countsOf c) which) ⌝ }
-{
-    match case_of(words) {
-        CaseCode::Known(c) => counts_word(c, which),
-        CaseCode::Unknown => 0,
-    }
 }
 
 // The settings' choices and numbers.
@@ -320,31 +263,6 @@ fn settings_word(s: Settings, group: usize, which: usize) -> u64
     }
 }
 
-// The settings of a case.
-#[no_mangle]
-pub extern "C" fn clock_settings(words: &[u64], group: usize, which: usize) -> u64
-    ensures { λ r. ⌜ r ≡ withCase 0 (caseOf (now (words .entry))) (λ c. settingsWord (c .settings) group which) ⌝ }
-{
-    match case_of(words) {
-        CaseCode::Known(c) => {
-            let settings = c.settings;
-            settings_word(settings, group, which)
-        }
-        CaseCode::Unknown => 0,
-    }
-}
-
-// 1 where every code of the case is known.
-#[no_mangle]
-pub extern "C" fn clock_known(words: &[u64]) -> u64
-    ensures { λ r. ⌜ r ≡ withCase 0 (caseOf (now (words .entry))) (λ c. 1) ⌝ }
-{
-    match case_of(words) {
-        CaseCode::Known(_) => 1,
-        CaseCode::Unknown => 0,
-    }
-}
-
 // The song position moved on by the frames of the case. Which: 0, beats; 1, seconds.
 fn advanced_word(c: Case, which: usize) -> u64
     ensures { λ r. ⌜ r ≡ wordAt (advancedOf c) which ⌝ }
@@ -358,12 +276,40 @@ fn advanced_word(c: Case, which: usize) -> u64
     reads::word(&words, which)
 }
 
+// Part 0: the prepared block; 1: the clock after it; 2: delay and fade in, in samples; 3: anchors; 4: counts; 5: the settings; 6: the song
+// position after the block; 7: 1, for a case that is known. Parts 0, 3 and 5 have groups.
+fn part_word(c: Case, part: usize, group: usize, which: usize) -> u64
+    requires { ⌜ Bounded c ⌝ }
+    ensures { λ r. ⌜ r ≡ partWord c part group which ⌝ }
+{
+    match part {
+        0 => {
+            let block = prepared(c).block;
+            block_word(block, group, which)
+        }
+        1 => {
+            let after = prepared(c).clock;
+            state_word(after, which)
+        }
+        2 => spans_word(c, which),
+        3 => anchors_word(c, group, which),
+        4 => counts_word(c, which),
+        5 => {
+            let settings = c.settings;
+            settings_word(settings, group, which)
+        }
+        6 => advanced_word(c, which),
+        7 => 1,
+        _ => 0,
+    }
+}
+
 #[no_mangle]
-pub extern "C" fn transport_advance(words: &[u64], which: usize) -> u64
-    ensures { λ r. ⌜ r ≡ withCase 0 (caseOf (now (words .entry))) (λ c. wordAt (advancedOf c) which) ⌝ }
+pub extern "C" fn clock_word(words: &[u64], part: usize, group: usize, which: usize) -> u64
+    ensures { λ r. ⌜ r ≡ withCase 0 (caseOf (now (words .entry))) (λ c. partWord c part group which) ⌝ }
 {
     match case_of(words) {
-        CaseCode::Known(c) => advanced_word(c, which),
+        CaseCode::Known(c) => part_word(c, part, group, which),
         CaseCode::Unknown => 0,
     }
 }
