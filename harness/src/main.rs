@@ -1,21 +1,104 @@
 //! Holds the Rattle crates to the Rust source, bit by bit, any two NaN being equal; and writes the vectors that programs of the repository
-//! are held to.
+//! are held to. After `rt staticlib exports`, in this folder:
 //!
-//! After `rt staticlib exports`, in this folder: `cargo run --release --offline -- vectors chaos`.
+//!     cargo run --release --offline -- compare all
+//!     cargo run --release --offline -- compare floats 100000000 7
+//!     cargo run --release --offline -- vectors chaos
+//!
+//! Only a release build compares: Rust leaves open which zero `max` gives for −0 and 0, and a debug build gives another one than a release
+//! build. Ours gives 0 (document 01).
 include!(concat!(env!("OUT_DIR"), "/source.rs"));
 
+mod choices;
+mod clock;
+mod curves;
+mod ffi;
+mod floats;
+mod generators;
+mod numbers;
+mod position;
 mod simd;
+mod tally;
+mod values;
 mod vectors;
+
+use std::time::Instant;
+use tally::Tally;
+use values::Values;
+
+type Compare = fn(&mut Tally, &mut Values);
+
+/// Each subject with the number of values of a short run.
+const SUBJECTS: [(&str, Compare, u64); 7] = [
+    ("floats", floats::compare, 4_000_000),
+    ("generators", generators::compare, 4_000_000),
+    ("curves", curves::compare, 4_000_000),
+    ("choices", choices::compare, 4_000_000),
+    ("position", position::compare, 4_000_000),
+    ("clock", clock::compare, 4_000_000),
+    ("numbers", numbers::compare, 4_000_000),
+];
+
+const USAGE: &str = "usage: harness vectors chaos|curves
+       harness compare SUBJECT|all [COUNT] [SEED]
+SUBJECT is floats, generators, curves, choices, position, clock or numbers; COUNT the least number of values of each.";
+
+fn number(word: &str) -> u64 {
+    word.replace('_', "").parse().unwrap_or_else(|_| usage())
+}
+
+fn usage() -> ! {
+    eprintln!("{USAGE}");
+    std::process::exit(2)
+}
+
+/// Compares a subject, or all, and answers whether every difference is a known one.
+fn compare(subject: &str, count: Option<u64>, seed: u64) -> bool {
+    if cfg!(debug_assertions) {
+        eprintln!("build with --release");
+        return false;
+    }
+    let mut right = true;
+    let mut compared = 0;
+    for (name, compare, short) in SUBJECTS {
+        if subject == name || subject == "all" {
+            let mut tally = Tally::new(name, seed, count.unwrap_or(short));
+            let start = Instant::now();
+            compare(&mut tally, &mut Values::new(seed));
+            right &= tally.show(start.elapsed().as_secs_f64());
+            compared += tally.compared;
+        }
+    }
+    if compared == 0 {
+        usage();
+    }
+    println!(
+        "{compared} values compared: {}",
+        if right {
+            "equal, but for known differences"
+        } else {
+            "THERE ARE DIFFERENCES"
+        }
+    );
+    right
+}
 
 fn main() {
     let words: Vec<String> = std::env::args().skip(1).collect();
     let words: Vec<&str> = words.iter().map(String::as_str).collect();
-    match words[..] {
-        ["vectors", "chaos"] => vectors::chaos(),
-        ["vectors", "curves"] => vectors::curves(),
-        _ => {
-            eprintln!("usage: harness vectors chaos | curves");
-            std::process::exit(2);
+    let right = match words[..] {
+        ["vectors", "chaos"] => {
+            vectors::chaos();
+            true
         }
-    }
+        ["vectors", "curves"] => {
+            vectors::curves();
+            true
+        }
+        ["compare", subject] => compare(subject, None, 1),
+        ["compare", subject, count] => compare(subject, Some(number(count)), 1),
+        ["compare", subject, count, seed] => compare(subject, Some(number(count)), number(seed)),
+        _ => usage(),
+    };
+    std::process::exit(if right { 0 } else { 1 });
 }

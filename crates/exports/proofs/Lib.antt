@@ -1,0 +1,3 @@
+pub mod Filled
+pub mod Words
+pub mod Bounds

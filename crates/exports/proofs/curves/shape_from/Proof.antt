@@ -1,0 +1,10 @@
+-- `shape_from` meets its contract. Assumes nothing.
+use borrow.Author.Needs.{needs}
+use Rattle.exports.proofs.curves.shape_from.Statement.{statement}
+use Rattle.exports.proofs.curves.shape_from.Tie as tie
+
+returns : tie.Need-returns
+returns c = (rw (← c .before .points .ensures) (c .new .ensures .0), c .new .ensures .1)
+
+pub shape-from-spec : {M : Type 1} → statement M
+shape-from-spec = tie.close (tie.spec (λ c κs. search needs) (λ c κs. search needs) returns)

@@ -1,0 +1,34 @@
+-- `shape_y` meets its contract: what each call gave, put together. Assumes nothing.
+use borrow.Author.Needs.{needs}
+use mathlib.Core.Path.{_≡_}
+use mathlib.Core.List.{List}
+use Prim.Native.Nat.{ℕ}
+use lib.Ieee.{Float, nan}
+use lib.ListN.{getD}
+use Rattle.points.specs.declared.Coordinates.{Coordinates}
+use Rattle.shape.specs.declared.Shape.{Shape}
+use Rattle.exports.specs.Curves.{shapeMoved}
+use Rattle.exports.proofs.curves.shape_y.Statement.{statement}
+use Rattle.exports.proofs.curves.shape_y.Tie as tie
+
+together : (s s₀ : Shape) (buses buses₀ : List Float) (at : Coordinates) (i : ℕ) (r : Float)
+    → buses ≡ buses₀
+    → s ≡ s₀
+    → at ≡ shapeMoved s buses
+    → r ≡ getD (at .ys) i nan
+    → r ≡ getD (shapeMoved s₀ buses₀ .ys) i nan
+together s s₀ buses buses₀ at i r a b d e = rw (e, d, b, a)
+
+returns : tie.Need-returns
+returns c = together _ _ _ _ _ _ _ (c .before .before .before .before .before .before .buses-of .ensures) (c .before .before .before .before .before .shape-from .ensures .0) (c .before .before .before .modulated .ensures) (c .float .ensures)
+
+pub shape-y-spec : {M : Type 1} → statement M
+shape-y-spec =
+    tie.close
+    (tie.spec
+    (λ c κs. search needs)
+    (λ c κs. search needs)
+    (λ c κs. search needs)
+    (λ c. search needs)
+    (λ c κs. search needs)
+    returns)
