@@ -195,7 +195,7 @@ pub rate-known : (c : RateCodes) → isRate (rateAt c) ≡ rateKnown c
 unfolding rateAt
 rate-known c = at (c .code)
   where
-    at : (k : ℕ) → isRate (getD (rates c) k RateCode.Unknown) ≡ cond (eqb k 0) (ltb (c .division) 15 && ltb (c .feel) 3) (eqb k 1 && ltb (c .x10) 2)
+    at : (k : ℕ) → isRate (getD (rates c) k RateCode.Unknown) ≡ rateKnown (record { code = k; division = c .division; feel = c .feel; hz = c .hz; x10 = c .x10 })
     at zero = rw (synced-known, division-known, feel-known)
     at (suc zero) = rw (hz-known, yes-no-known)
     at (suc (suc k)) = rw (eqb·suc-zero, eqb·suc-suc, eqb·suc-zero)
@@ -208,7 +208,7 @@ pub span-known : (c : SpanCodes) → isSpan (spanAt c) ≡ spanKnown c
 unfolding spanAt
 span-known c = at (c .code)
   where
-    at : (k : ℕ) → isSpan (getD (spans c) k SpanCode.Unknown) ≡ cond (eqb k 1) (ltb (c .division) 15) (ltb k 3)
+    at : (k : ℕ) → isSpan (getD (spans c) k SpanCode.Unknown) ≡ spanKnown (record { code = k; division = c .division; seconds = c .seconds })
     at zero = refl
     at (suc zero) = rw (span-synced-known, division-known)
     at (suc (suc zero)) = refl
