@@ -39,7 +39,7 @@ const SUBJECTS: [(&str, Compare, u64); 7] = [
     ("numbers", numbers::compare, 4_000_000),
 ];
 
-const USAGE: &str = "usage: harness vectors chaos
+const USAGE: &str = "usage: harness vectors chaos|curves
        harness compare SUBJECT|all [COUNT] [SEED]
 SUBJECT is floats, generators, curves, choices, position, clock or numbers; COUNT the least number of values of each.";
 
@@ -89,6 +89,10 @@ fn main() {
     let right = match words[..] {
         ["vectors", "chaos"] => {
             vectors::chaos();
+            true
+        }
+        ["vectors", "curves"] => {
+            vectors::curves();
             true
         }
         ["compare", subject] => compare(subject, None, 1),
