@@ -4,15 +4,16 @@ use crate::lfo::{Block, Lfo, LfoType, LfoVoice, Mode, Rate, Scale, Settings, Spa
 use crate::tally::{Tally, bits32, bits64};
 use crate::values::Values;
 
-// The parts of `clock_word`.
+// The parts of `clock_word`, and the groups of the last one.
 const BLOCK: usize = 0;
-const AFTER: usize = 1;
-const SPANS: usize = 2;
-const ANCHORS: usize = 3;
-const COUNTS: usize = 4;
-const SETTINGS: usize = 5;
-const TRANSPORT: usize = 6;
-const KNOWN: usize = 7;
+const ANCHORS: usize = 1;
+const SETTINGS: usize = 2;
+const REST: usize = 3;
+const AFTER: usize = 0;
+const SPANS: usize = 1;
+const COUNTS: usize = 2;
+const TRANSPORT: usize = 3;
+const KNOWN: usize = 4;
 
 /// A case as crates/exports takes it (src/cases.rt has the places).
 #[derive(Clone)]
@@ -141,7 +142,7 @@ impl Case<'_> {
         let clock = float_words(self.lfo.clock_(), &[0, 2, 3]);
         self.compare(
             "clock after",
-            |w, i| ffi::clock_word(w, AFTER, 0, i),
+            |w, i| ffi::clock_word(w, REST, AFTER, i),
             &clock,
         );
     }
@@ -161,11 +162,11 @@ impl Case<'_> {
         );
         self.compare(
             "delay and fade",
-            |w, i| ffi::clock_word(w, SPANS, 0, i),
+            |w, i| ffi::clock_word(w, REST, SPANS, i),
             &restarted.spans_(),
         );
         let spans = [lfo.settings.delay, lfo.settings.fade_in].map(|s| s.samples_(self.block));
-        self.compare("spans", |w, i| ffi::clock_word(w, SPANS, 0, i), &spans);
+        self.compare("spans", |w, i| ffi::clock_word(w, REST, SPANS, i), &spans);
         let mut begun = voice.clone();
         lfo.begin_(self.block, &mut begun, self.at);
         self.compare(
@@ -196,7 +197,7 @@ impl Case<'_> {
         ];
         self.compare(
             "count, swung, position, phase",
-            |w, i| ffi::clock_word(w, COUNTS, 0, i),
+            |w, i| ffi::clock_word(w, REST, COUNTS, i),
             &counts,
         );
     }
@@ -328,9 +329,11 @@ fn advanced(t: &mut Tally, words: &Words, after: &Transport) {
         .into_iter()
         .enumerate()
     {
-        t.word(ffi::clock_word(&words.0, TRANSPORT, 0, which), word, || {
-            format!("word {which} of the transport after, words {:x?}", words.0)
-        });
+        t.word(
+            ffi::clock_word(&words.0, REST, TRANSPORT, which),
+            word,
+            || format!("word {which} of the transport after, words {:x?}", words.0),
+        );
     }
 }
 
@@ -379,7 +382,7 @@ fn settings(t: &mut Tally, v: &mut Values, words: &Words) {
         w[at] = v.code(count);
     }
     let known = is_known(&w);
-    t.word(ffi::clock_word(&w, KNOWN, 0, 0), known.into(), || {
+    t.word(ffi::clock_word(&w, REST, KNOWN, 0), known.into(), || {
         format!("known, words {w:x?}")
     });
     let rust = if known {

@@ -154,12 +154,12 @@ fn one_shape(t: &mut Tally, v: &mut Values) {
     shape.modulated(&buses, &mut xs, &mut ys);
     let input = || format!("{points:?}, buses {buses:?}");
     for i in 0..n {
-        t.f32(ffi::shape_x(floats, bytes, &buses, count, i), xs[i], || {
-            format!("x of point {i} of {}", input())
-        });
-        t.f32(ffi::shape_y(floats, bytes, &buses, count, i), ys[i], || {
-            format!("y of point {i} of {}", input())
-        });
+        for (y, rust) in [(false, xs[i]), (true, ys[i])] {
+            let ours = ffi::shape_place(floats, bytes, &buses, count, y, i);
+            t.f32(ours, rust, || {
+                format!("place of point {i}, y {y}, of {}", input())
+            });
+        }
     }
     for _ in 0..4 {
         let x = v.position(&xs[..n]);
@@ -229,16 +229,12 @@ fn one_path(t: &mut Tally, v: &mut Values) {
     path.modulated(&buses, &mut xs, &mut ys);
     let input = || format!("{points:?}, closed {closed}, buses {buses:?}");
     for i in 0..n {
-        t.f32(
-            ffi::path_x(floats, bytes, &legs, &buses, count, closed, i),
-            xs[i],
-            || format!("x of point {i} of {}", input()),
-        );
-        t.f32(
-            ffi::path_y(floats, bytes, &legs, &buses, count, closed, i),
-            ys[i],
-            || format!("y of point {i} of {}", input()),
-        );
+        for (y, rust) in [(false, xs[i]), (true, ys[i])] {
+            let ours = ffi::path_place(floats, bytes, &legs, &buses, count, closed, y, i);
+            t.f32(ours, rust, || {
+                format!("place of point {i}, y {y}, of {}", input())
+            });
+        }
     }
     let times: Vec<f32> = (0..=n)
         .map(|j| ffi::path_time(floats, bytes, &legs, count, closed, j))

@@ -95,12 +95,10 @@ on_numbers! {
 on_slices! {
     shape_segment(floats: [f32], bytes: [u8], buses: [f32]; count: usize, x: f32, which: usize) -> f32;
     shape_value(floats: [f32], bytes: [u8]; count: usize, x: f32) -> f32;
-    shape_x(floats: [f32], bytes: [u8], buses: [f32]; count: usize, i: usize) -> f32;
-    shape_y(floats: [f32], bytes: [u8], buses: [f32]; count: usize, i: usize) -> f32;
+    shape_place(floats: [f32], bytes: [u8], buses: [f32]; count: usize, y: bool, i: usize) -> f32;
     path_segment(floats: [f32], bytes: [u8], legs: [f32], buses: [f32]; count: usize, closed: bool, t: f32, which: usize) -> f32;
     path_value(floats: [f32], bytes: [u8], legs: [f32]; count: usize, closed: bool, t: f32, which: usize) -> f32;
-    path_x(floats: [f32], bytes: [u8], legs: [f32], buses: [f32]; count: usize, closed: bool, i: usize) -> f32;
-    path_y(floats: [f32], bytes: [u8], legs: [f32], buses: [f32]; count: usize, closed: bool, i: usize) -> f32;
+    path_place(floats: [f32], bytes: [u8], legs: [f32], buses: [f32]; count: usize, closed: bool, y: bool, i: usize) -> f32;
     path_time(floats: [f32], bytes: [u8], legs: [f32]; count: usize, closed: bool, j: usize) -> f32;
 
     clock_word(words: [u64]; part: usize, group: usize, which: usize) -> u64;

@@ -80,6 +80,7 @@ fn limits(t: &mut Tally, voice: &mut LfoVoice) {
     }
     let floats = limits_f32();
     for lorenz in [true, false] {
+        advance(t, lorenz, [0.0, 0.0, -0.0], 0.0, 0);
         for &a in &floats {
             for &h in floats.iter().step_by(3) {
                 let s = Lfo::chaos_start_(lorenz);

@@ -28,15 +28,15 @@ use values::Values;
 
 type Compare = fn(&mut Tally, &mut Values);
 
-/// Each subject with the number of values of a short run.
+/// Each subject with the number of values of a short run, which takes about a minute.
 const SUBJECTS: [(&str, Compare, u64); 7] = [
-    ("floats", floats::compare, 4_000_000),
-    ("generators", generators::compare, 4_000_000),
-    ("curves", curves::compare, 4_000_000),
-    ("choices", choices::compare, 4_000_000),
-    ("position", position::compare, 4_000_000),
-    ("clock", clock::compare, 4_000_000),
-    ("numbers", numbers::compare, 4_000_000),
+    ("floats", floats::compare, 50_000_000),
+    ("generators", generators::compare, 30_000_000),
+    ("curves", curves::compare, 10_000_000),
+    ("choices", choices::compare, 50_000_000),
+    ("position", position::compare, 50_000_000),
+    ("clock", clock::compare, 40_000_000),
+    ("numbers", numbers::compare, 50_000_000),
 ];
 
 const USAGE: &str = "usage: harness vectors chaos|curves

@@ -50,7 +50,10 @@ impl Lfo {
     pub fn path_segment_(path: &Path, xs: &[f32], ys: &[f32], t: f32) -> ([f32; 10], (f32, f32)) {
         let s = path_segment(path, xs, ys, t);
         let [ax, dx, nx, ay, dy, ny] = s.c;
-        ([s.lo, s.hi, s.t0, s.inv_w, ax, dx, nx, ay, dy, ny], s.eval(t))
+        (
+            [s.lo, s.hi, s.t0, s.inv_w, ax, dx, nx, ay, dy, ny],
+            s.eval(t),
+        )
     }
 }
 
@@ -145,8 +148,16 @@ impl LfoVoice {
         let (c0, rate) = (f64::from_bits(c0), f64::from_bits(rate));
         self.anchor = match code {
             0 => Anchor::Samples { c0, n, inc: rate },
-            1 => Anchor::Beats { c0, b0: f64::from_bits(n), per_beat: rate },
-            _ => Anchor::Seconds { c0, s0: f64::from_bits(n), per_second: rate },
+            1 => Anchor::Beats {
+                c0,
+                b0: f64::from_bits(n),
+                per_beat: rate,
+            },
+            _ => Anchor::Seconds {
+                c0,
+                s0: f64::from_bits(n),
+                per_second: rate,
+            },
         };
     }
     /// Delay and fade in of the last restart, in samples.

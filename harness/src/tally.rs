@@ -1,7 +1,8 @@
 //! Counts what was compared and what differed, and shows the first differences with what they came from.
 use std::fmt::Display;
 
-/// Of every difference that document 01 lets stand, a name under which it is counted. It is listed in docs/DIFFERENCES.md.
+/// The one difference that document 01 lets stand. Rust leaves open which zero it is; ours is 0. Its smallest inputs: `max` of −0 and 0, and
+/// z of `chaos::advance` from 0, 0, −0 by no step, whose box is a `max` with a bound of 0.
 pub const ZERO_OF_MAX: &str = "the zero that `max` gives for −0 and 0";
 
 pub struct Tally {
@@ -11,8 +12,9 @@ pub struct Tally {
     wanted: u64,
     pub compared: u64,
     pub differed: u64,
-    /// How many of the differences are known ones.
+    /// How many of the differences are known ones, and what gave the first of them.
     pub known: u64,
+    first_known: String,
 }
 
 /// The bits of a float as crates/exports gives them: every NaN has one pattern.
@@ -41,6 +43,7 @@ impl Tally {
             compared: 0,
             differed: 0,
             known: 0,
+            first_known: String::new(),
         }
     }
 
@@ -84,6 +87,9 @@ impl Tally {
             self.compared += 1;
             self.differed += 1;
             self.known += 1;
+            if self.known == 1 {
+                self.first_known = input().to_string();
+            }
         } else {
             self.f64(ours, rust, input);
         }
@@ -96,7 +102,10 @@ impl Tally {
             self.subject, self.compared, self.differed
         );
         if self.known > 0 {
-            print!(" ({} by {ZERO_OF_MAX})", self.known);
+            print!(
+                " ({} by {ZERO_OF_MAX}, first {})",
+                self.known, self.first_known
+            );
         }
         println!(
             ", {:.1} s, {:.2} million a second",

@@ -167,18 +167,13 @@ countsOf c =
 unfoldable pub advancedOf : Case → List ℕ
 advancedOf c = let t = advancedTransport (c .transport) (c .frames) in bits64 (t .beats) ∷ bits64 (t .seconds) ∷ []
 
--- the answers of the parts; the last one is 1, for a case that is known
-unfoldable pub partWords : Case → ℕ → ℕ → List ℕ
-partWords c group which =
-    blockWord (preparedBy c .block) group which
-    ∷ stateWord (preparedBy c .clock) which
-    ∷ wordAt (spansOf c) which
-    ∷ wordAt (groupAt (anchorsOf c) group) which
-    ∷ wordAt (countsOf c) which
-    ∷ settingsWord (c .settings) group which
-    ∷ wordAt (advancedOf c) which
-    ∷ 1
-    ∷ []
+-- the clock after the block, spans, counts, the song position after the block, and 1, for a case that is known
+unfoldable pub restOf : Case → List (List ℕ)
+restOf c = stateWords (preparedBy c .clock) ∷ spansOf c ∷ countsOf c ∷ advancedOf c ∷ (1 ∷ []) ∷ []
+
+-- the prepared block, anchors, settings, and the rest
+unfoldable pub partsOf : Case → List (List (List ℕ))
+partsOf c = blockWords (preparedBy c .block) ∷ anchorsOf c ∷ settingsWords (c .settings) ∷ restOf c ∷ []
 
 unfoldable pub partWord : Case → ℕ → ℕ → ℕ → ℕ
-partWord c part group which = wordAt (partWords c group which) part
+partWord c part group which = wordAt (groupAt (getD (partsOf c) part []) group) which

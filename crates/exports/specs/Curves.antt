@@ -88,6 +88,10 @@ shapeMoved s buses = modulatedOf (s .points) (s .len) buses
 abbrev pub pathMoved : Path → List Float → Coordinates
 pathMoved p buses = modulatedPath (p .points) (p .len) buses
 
+-- the x of point i, or its y
+abbrev pub placeOf : Coordinates → Bool → ℕ → Float
+placeOf at y i = getD (cond y (at .ys) (at .xs)) i nan
+
 -- the segment at x, of the points so moved
 unfoldable pub segmentOn : Shape → List Float → Float → Segment
 segmentOn s buses x =

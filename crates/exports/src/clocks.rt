@@ -15,7 +15,7 @@ use position::Swing;
 use settings::Settings;
 ghost use mathlib.Core.Path.{_≡_};
 ghost use Rattle.exports.specs.Cases.{caseOf, Bounded};
-ghost use Rattle.exports.specs.Clocks.{lockWord, freeWord, swingWord, stateWord, anchorWord, numberWord, blockWord, choiceWord, settingsWord, preparedBy, spansOf, anchorsOf, countsOf, advancedOf, partWord, wordAt, groupAt, withCase};
+ghost use Rattle.exports.specs.Clocks.{lockWord, freeWord, swingWord, stateWord, anchorWord, numberWord, blockWord, choiceWord, settingsWord, preparedBy, spansOf, anchorsOf, countsOf, advancedOf, restOf, partWord, wordAt, groupAt, withCase};
 
 fn lock_word(lock: SongLock, which: usize) -> u64
     ensures { λ r. ⌜ r ≡ lockWord lock which ⌝ }
@@ -276,8 +276,29 @@ fn advanced_word(c: Case, which: usize) -> u64
     reads::word(&words, which)
 }
 
-// Part 0: the prepared block; 1: the clock after it; 2: delay and fade in, in samples; 3: anchors; 4: counts; 5: the settings; 6: the song
-// position after the block; 7: 1, for a case that is known. Parts 0, 3 and 5 have groups.
+// Group 0: the clock after the block; 1: delay and fade in, in samples; 2: counts; 3: the song position after the block; 4: 1, for a case
+// that is known.
+fn rest_word(c: Case, group: usize, which: usize) -> u64
+    requires { ⌜ Bounded c ⌝ }
+    ensures { λ r. ⌜ r ≡ wordAt (groupAt (restOf c) group) which ⌝ }
+{
+    match group {
+        0 => {
+            let after = prepared(c).clock;
+            state_word(after, which)
+        }
+        1 => spans_word(c, which),
+        2 => counts_word(c, which),
+        3 => advanced_word(c, which),
+        4 => {
+            let words = [1u64];
+            reads::word(&words, which)
+        }
+        _ => 0,
+    }
+}
+
+// Part 0: the prepared block; 1: anchors; 2: the settings; 3: the rest.
 fn part_word(c: Case, part: usize, group: usize, which: usize) -> u64
     requires { ⌜ Bounded c ⌝ }
     ensures { λ r. ⌜ r ≡ partWord c part group which ⌝ }
@@ -287,19 +308,12 @@ fn part_word(c: Case, part: usize, group: usize, which: usize) -> u64
             let block = prepared(c).block;
             block_word(block, group, which)
         }
-        1 => {
-            let after = prepared(c).clock;
-            state_word(after, which)
-        }
-        2 => spans_word(c, which),
-        3 => anchors_word(c, group, which),
-        4 => counts_word(c, which),
-        5 => {
+        1 => anchors_word(c, group, which),
+        2 => {
             let settings = c.settings;
             settings_word(settings, group, which)
         }
-        6 => advanced_word(c, which),
-        7 => 1,
+        3 => rest_word(c, group, which),
         _ => 0,
     }
 }
