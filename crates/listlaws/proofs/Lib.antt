@@ -1,0 +1,5 @@
+pub mod LastWhere
+pub mod Tabulation
+pub mod Shift
+pub mod Inserted
+pub mod Over

@@ -1,0 +1,12 @@
+-- `PathSegment::contains` meets its contract. Assumes nothing.
+use Rattle.path_segments.proofs.PathSegment.contains.Statement.{statement}
+use Rattle.path_segments.proofs.PathSegment.contains.Tie as tie
+
+returns : tie.Need-returns
+returns c = rw (c .before .if1 .taken)
+
+returns-2 : tie.Need-returns-2
+returns-2 c = rw (c .if1 .left)
+
+pub contains-spec : {M : Type 1} → statement M
+contains-spec = tie.close (tie.spec returns returns-2)
