@@ -1,0 +1,7 @@
+pub mod Range
+pub mod Reach
+pub mod Limit
+pub mod Prepared
+pub mod Swing
+pub mod Frame
+pub mod Stopped

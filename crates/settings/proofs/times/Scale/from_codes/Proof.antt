@@ -1,0 +1,21 @@
+-- `Scale::from_codes` meets its contract: each code is a place of the list, and any other is past its end. Assumes nothing.
+use native.Mathlib.Omega.{arith}
+use lib.ListN.{List·getD-eq-default}
+use Rattle.settings.specs.Times.{scales, scaleAt}
+use Rattle.settings.proofs.times.Scale.from_codes.Statement.{statement}
+use Rattle.settings.proofs.times.Scale.from_codes.Tie as tie
+
+returns : tie.Need-returns
+unfolding scaleAt
+returns c = rw (c .match .keys1)
+
+returns-2 : tie.Need-returns-2
+unfolding scaleAt
+returns-2 c = rw (c .match .keys2)
+
+returns-3 : tie.Need-returns-3
+unfolding scaleAt
+returns-3 c = let a = c .before .args .c in rw (List·getD-eq-default (scales a) _ {n = a .code} (omega arith))
+
+pub from-codes-spec : {M : Type 1} → statement M
+from-codes-spec = tie.close (tie.spec returns returns-2 returns-3)
