@@ -1,0 +1,22 @@
+-- `begun_source` meets its contract. Assumes nothing.
+use borrow.Author.Needs.{needs}
+use Rattle.voice.specs.Voice.{begunSource}
+use Rattle.voice.proofs.begun.begun_source.Statement.{statement}
+use Rattle.voice.proofs.begun.begun_source.Tie as tie
+
+is-requires : tie.Need-is-requires
+is-requires c κs = search needs
+
+returns : tie.Need-returns
+unfolding begunSource
+returns c = rw (← c .before .is .ensures, c .if1 .taken)
+
+attractor-start-requires : tie.Need-attractor-start-requires
+attractor-start-requires c κs = search needs
+
+returns-2 : tie.Need-returns-2
+unfolding begunSource
+returns-2 c = rw (← c .before .before .before .before .is .ensures, c .before .before .before .if1 .left, c .before .attractor-start .ensures)
+
+pub begun-source-spec : {M : Type 1} → statement M
+begun-source-spec = tie.close (tie.spec is-requires returns attractor-start-requires returns-2)
