@@ -36,9 +36,11 @@ pathBetween t0 t1 x y dx dy bend =
       ny = bend ×₃₂ f32-½ ×₃₂ dx;
     }
 
+-- whether it holds t
 abbrev pub pathContains : PathSegment → Float → Bool
 pathContains s t = le (s .lo) t && lt t (s .hi)
 
+-- where t falls in it, 0 to 1
 abbrev pub pathU : PathSegment → Float → Float
 pathU s t = (t -₃₂ s .t0) ×₃₂ s .«inv_w»
 
@@ -46,12 +48,13 @@ pathU s t = (t -₃₂ s .t0) ×₃₂ s .«inv_w»
 abbrev pub coordinate : Float → Float → Float → Float → Float → Float
 coordinate u h a d n = a +₃₂ u ×₃₂ d +₃₂ h ×₃₂ n
 
--- with h = 4 u (1 - u)
+-- X and Y at u, with h = 4 u (1 - u)
 abbrev pub pathPoint : Float → PathSegment → Xy
 pathPoint u s =
     let h = f32-4 ×₃₂ u ×₃₂ (f32-1 -₃₂ u) in
     record { x = coordinate u h (s .ax) (s .dx) (s .nx); y = coordinate u h (s .ay) (s .dy) (s .ny) }
 
+-- X and Y at t
 abbrev pub pathEval : PathSegment → Float → Xy
 pathEval s t = pathPoint (pathU s t) s
 
@@ -62,22 +65,27 @@ lastOf len closed = cond closed 0 (len - 1)
 -- from point i - 1 to the one after it, which after the last point is the first
 unfoldable pub legSegment : List Float → List Float → List Float → List Float → ℕ → ℕ → PathSegment
 legSegment xs ys bends times len i =
-    pathBetween (getD times (i - 1) nan) (getD times i nan) (getD xs (i - 1) nan) (getD ys (i - 1) nan)
-    (getD xs (i % len) nan -₃₂ getD xs (i - 1) nan) (getD ys (i % len) nan -₃₂ getD ys (i - 1) nan) (getD bends (i - 1) nan)
+    let a = i - 1 in
+    let b = i % len in
+    let x = getD xs a nan in
+    let y = getD ys a nan in
+    pathBetween (getD times a nan) (getD times i nan) x y (getD xs b nan -₃₂ x) (getD ys b nan -₃₂ y) (getD bends a nan)
 
 -- The segment after the first i of the n + 1 times: before the first time the first point holds, and after the last the one at which the path ends.
 unfoldable pub pathSegmentAt : List Float → List Float → List Float → List Float → ℕ → Bool → ℕ → ℕ → PathSegment
 pathSegmentAt xs ys bends times len closed n i =
+    let last = lastOf len closed in
     cond (eqb i 0) (pathHold (inf true) (getD times 0 nan) (getD xs 0 nan) (getD ys 0 nan))
-    (cond (ltb n i) (pathHold (getD times n nan) (inf false) (getD xs (lastOf len closed) nan) (getD ys (lastOf len closed) nan))
+    (cond (ltb n i) (pathHold (getD times n nan) (inf false) (getD xs last nan) (getD ys last nan))
     (legSegment xs ys bends times len i))
 
--- The segment that holds t; of no points, 0 everywhere, and of a path with no segment, its first point. Where two neighbouring times lie 2 ^ -128 or less apart the reciprocal of their distance is infinite, and the values between them can be NaN.
+-- The segment that holds t; of no points, 0 everywhere, and of a path with no segment, its first point. A NaN, which no accepted call gives, counts as before the first time. Where two neighbouring times lie 2 ^ -128 or less apart the reciprocal of their distance is infinite, and the values between them can be NaN.
 unfoldable pub pathSegment : List Float → List Float → List Float → List Float → ℕ → Bool → Float → PathSegment
 pathSegment xs ys bends times len closed t =
+    let n = segmentsOf len closed in
     cond (eqb len 0) (pathHold (inf true) (inf false) f32-0 f32-0)
-    (cond (eqb (segmentsOf len closed) 0) (pathHold (inf true) (inf false) (getD xs 0 nan) (getD ys 0 nan))
-    (pathSegmentAt xs ys bends times len closed (segmentsOf len closed) (partitionPoint times (suc (segmentsOf len closed)) t)))
+    (cond (eqb n 0) (pathHold (inf true) (inf false) (getD xs 0 nan) (getD ys 0 nan))
+    (pathSegmentAt xs ys bends times len closed n (partitionPoint times (suc n) t)))
 
 -- ---- what the laws speak of
 
@@ -86,8 +94,10 @@ unfoldable pub rustPathSegment : List Float → List Float → List Float → Li
 rustPathSegment xs ys bends times len closed t =
     let n = segmentsOf len closed in
     let j = partitionPoint times (suc n) t - 1 in
+    let end = getD times n nan in
+    let last = lastOf len closed in
     cond (eqb len 0) (pathHold (inf true) (inf false) f32-0 f32-0)
     (cond (eqb n 0) (pathHold (inf true) (inf false) (getD xs 0 nan) (getD ys 0 nan))
     (cond (lt t f32-0) (pathHold (inf true) f32-0 (getD xs 0 nan) (getD ys 0 nan))
-    (cond (le (getD times n nan) t) (pathHold (getD times n nan) (inf false) (getD xs (lastOf len closed) nan) (getD ys (lastOf len closed) nan))
+    (cond (le end t) (pathHold end (inf false) (getD xs last nan) (getD ys last nan))
     (legSegment xs ys bends times len (suc j)))))

@@ -15,7 +15,7 @@ use borrow.Author.Tests.{lt-ltb, le-ltb}
 use Rattle.floatlaws.proofs.NoNan.{finite-number}
 use Rattle.floatlaws.proofs.Order.{le-left, lowest, not-le→lt}
 use Rattle.points.specs.Arrays.{Ascends, partitionPoint}
-use Rattle.points.proofs.Partition.{partition-le, partition-at, partition-after, partition-between}
+use Rattle.points.proofs.Partition.{partition-at, partition-after, partition-between}
 
 -- where the stretch after the first i of xs starts
 abbrev pub lower : List Float → ℕ → Float

@@ -1,5 +1,4 @@
 -- Arrays of floats that are filled by a rule: they ascend, or lie in a range, where the rule does. Assumes nothing.
-use mathlib.Core.List.{List}
 use Prim.Native.Nat.{ℕ, _≤_, _<_}
 use native.Mathlib.Omega.{arith}
 use lib.Dec.{T}

@@ -1,4 +1,4 @@
 pub mod Partition
 pub mod Bounds
-pub mod Offsets
 pub mod Floats
+pub mod Offsets

@@ -1,4 +1,4 @@
--- A finite modulation moves a finite coordinate to a number, and a bus above the last moves nothing. Assumes nothing.
+-- A finite modulation moves a finite coordinate to a number, and places it in 0 to 1; a bus above the last moves nothing. Assumes nothing.
 use mathlib.Core.Path.{_≡_, sym, _∙_, subst}
 use mathlib.Core.Bool.{Bool, true, false, cond}
 use mathlib.Core.List.{List}
@@ -11,11 +11,12 @@ use lib.Ieee.{Float, nan, inf, fin, unlike, up, down, round, eq, binary32, mul, 
 use lib.IntN.{ℤ}
 use lib.Ieee.Fits.{down-pos}
 use lib.Ieee.Scale.{finite, round-same}
-use Rattle.floatlaws.specs.Numbers.{f32-0}
+use Rattle.floatlaws.specs.Numbers.{Between, f32-0, f32-1}
 use Rattle.floatlaws.proofs.NoNan.{Number, mul-number, add-number}
 use Rattle.points.specs.declared.PointMod.{PointMod}
 use Rattle.points.specs.declared.PointMod.the-variants.{None, Bus}
-use Rattle.points.specs.Modulation.{FiniteMod, FiniteBuses, busValue, offsetOf, movedOf}
+use Rattle.points.specs.Modulation.{FiniteMod, FiniteBuses, busValue, offsetOf, movedOf, placedOf}
+use Rattle.points.proofs.Floats.{unit-clamped}
 
 -- ---- a finite modulation moves a finite coordinate to a number
 
@@ -34,6 +35,10 @@ offset-number (Bus bus depth) buses h k = mul-number binary32 (busValue buses bu
 
 pub moved-number : (x : Float) (m : PointMod) (buses : List Float) → T (finite x) → FiniteMod m → FiniteBuses buses → Number (movedOf x m buses)
 moved-number x m buses f h k = add-number binary32 x (offsetOf m buses) f (offset-number m buses h k)
+
+pub placed-between : (x : Float) (m : PointMod) (buses : List Float) → Number (movedOf x m buses) → Between f32-0 (placedOf x m buses) f32-1
+unfolding placedOf
+placed-between x m buses number = unit-clamped (movedOf x m buses) number
 
 -- ---- a bus above the last moves nothing: its offset is a zero
 

@@ -6,8 +6,9 @@ use lib.Dec.{T, ltb}
 use lib.ListN.{getD}
 use lib.Ieee.{Float, nan}
 use lib.Ieee.Scale.{finite}
-use Rattle.floatlaws.specs.Numbers.{f32-0}
+use Rattle.floatlaws.specs.Numbers.{f32-0, f32-1}
 use Rattle.floatlaws.specs.Rounded.{_+₃₂_, _×₃₂_}
+use Rattle.floatlaws.specs.Extrema.{clampOf}
 use Rattle.points.specs.declared.PointMod.{PointMod}
 use Rattle.points.specs.declared.PointMod.the-variants.{None, Bus}
 
@@ -20,8 +21,13 @@ unfoldable pub offsetOf : PointMod → List Float → Float
 offsetOf None buses = f32-0
 offsetOf (Bus bus depth) buses = busValue buses bus ×₃₂ depth
 
+-- a coordinate moved by its bus
 abbrev pub movedOf : Float → PointMod → List Float → Float
 movedOf at m buses = at +₃₂ offsetOf m buses
+
+-- a coordinate moved by its bus, inside the unit square
+unfoldable pub placedOf : Float → PointMod → List Float → Float
+placedOf at m buses = clampOf (movedOf at m buses) f32-0 f32-1
 
 -- ---- what the laws speak of
 

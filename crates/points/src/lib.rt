@@ -4,7 +4,7 @@ ghost use mathlib.Core.Path.{_≡_};
 ghost use Prim.Native.Nat.{_≤_, _<_, min};
 ghost use lib.ListN.{length};
 ghost use Rattle.points.specs.Arrays.{partitionPoint};
-ghost use Rattle.points.specs.Modulation.{busValue, offsetOf, movedOf};
+ghost use Rattle.points.specs.Modulation.{busValue, offsetOf, movedOf, placedOf};
 
 // The most points a shape or a path holds.
 pub const MAX_POINTS: usize = 64;
@@ -58,6 +58,13 @@ pub fn moved(at: f32, m: PointMod, buses: &[f32; POINT_BUSES]) -> f32
     ensures { λ r. ⌜ r ≡ movedOf at m (now (buses .entry)) ⌝ }
 {
     at + offset(m, buses)
+}
+
+// A coordinate moved by its bus, inside the unit square.
+pub fn placed(at: f32, m: PointMod, buses: &[f32; POINT_BUSES]) -> f32
+    ensures { λ r. ⌜ r ≡ placedOf at m (now (buses .entry)) ⌝ }
+{
+    extrema::clamp_f32(moved(at, m, buses), 0.0, 1.0)
 }
 
 // How many of the first `n` of `xs` stand up to the last one at or before `x`. On ascending `xs` this is Rust's

@@ -12,12 +12,14 @@ pub struct Point {
     pub x: f32,
     // The value there, 0 (bottom) to 1 (top).
     pub y: f32,
-    // The bend of the segment from this point to the next, -1 to 1; 0 is a straight line.
+    // The bend of the segment from this point to the next, -1 to 1; 0 is a straight line, and above 0 it starts slowly and
+    // finishes fast.
     pub curve: f32,
-    // 2^(4 × curve), supplied with the point.
+    // 2^(4 × curve), supplied with the point: 1/16 to 16.
     pub strength: f32,
     // The segment from this point holds its value and jumps at the next point.
     pub step: bool,
+    // Modulation of `x` and of `y`.
     pub x_mod: PointMod,
     pub y_mod: PointMod,
 }

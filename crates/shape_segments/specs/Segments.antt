@@ -22,27 +22,35 @@ holdOf lo hi y = record { lo = lo; hi = hi; x0 = f32-0; «inv_w» = f32-0; y0 = 
 abbrev pub betweenOf : Float → Float → Float → Float → Float → Segment
 betweenOf x0 x1 y0 y1 e = record { lo = x0; hi = x1; x0 = x0; «inv_w» = f32-1 ÷₃₂ (x1 -₃₂ x0); y0 = y0; dy = y1 -₃₂ y0; e = e }
 
+-- whether it holds x
 abbrev pub containsOf : Segment → Float → Bool
 containsOf s x = le (s .lo) x && lt x (s .hi)
 
+-- where x falls in it, 0 to 1
 abbrev pub uOf : Segment → Float → Float
 uOf s x = (x -₃₂ s .x0) ×₃₂ s .«inv_w»
 
+-- from y0 at u = 0 towards y0 + dy at u = 1, bent by e; 1 is straight
 abbrev pub curveOf : Float → Float → Float → Float → Float
 curveOf u y0 dy e = y0 +₃₂ dy ×₃₂ (u ÷₃₂ (u +₃₂ (f32-1 -₃₂ u) ×₃₂ e))
 
+-- its value at x
 abbrev pub evalOf : Segment → Float → Float
 evalOf s x = curveOf (uOf s x) (s .y0) (s .dy) (s .e)
 
 -- The segment after the first i of the n points: before the first point its value holds, and after the last point that one's.
 unfoldable pub segmentAt : List Float → List Float → List Float → List Bool → ℕ → ℕ → Segment
 segmentAt xs ys es steps n i =
+    let k = i - 1 in
+    let x0 = getD xs k nan in
+    let y0 = getD ys k nan in
+    let x1 = getD xs i nan in
     cond (eqb i 0) (holdOf (inf true) (getD xs 0 nan) (getD ys 0 nan))
-    (cond (eqb i n) (holdOf (getD xs (i - 1) nan) (inf false) (getD ys (i - 1) nan))
-    (cond (getD steps (i - 1) false) (holdOf (getD xs (i - 1) nan) (getD xs i nan) (getD ys (i - 1) nan))
-    (betweenOf (getD xs (i - 1) nan) (getD xs i nan) (getD ys (i - 1) nan) (getD ys i nan) (getD es (i - 1) nan))))
+    (cond (eqb i n) (holdOf x0 (inf false) y0)
+    (cond (getD steps k false) (holdOf x0 x1 y0)
+    (betweenOf x0 x1 y0 (getD ys i nan) (getD es k nan))))
 
--- The segment that holds x; of no points, 0 everywhere. Where two neighbours lie 2 ^ -128 or less apart the reciprocal of their distance is infinite, and the value between them can be a NaN.
+-- The segment that holds x; of no points, 0 everywhere. A NaN, which no accepted call gives, counts as before the first point. Where two neighbours lie 2 ^ -128 or less apart the reciprocal of their distance is infinite, and the value between them can be a NaN.
 unfoldable pub drawnSegment : List Float → List Float → List Float → List Bool → ℕ → Float → Segment
 drawnSegment xs ys es steps n x = cond (eqb n 0) (holdOf (inf true) (inf false) f32-0) (segmentAt xs ys es steps n (partitionPoint xs n x))
 
@@ -52,8 +60,11 @@ drawnSegment xs ys es steps n x = cond (eqb n 0) (holdOf (inf true) (inf false) 
 unfoldable pub rustSegment : List Float → List Float → List Float → List Bool → ℕ → Float → Segment
 rustSegment xs ys es steps n x =
     let i = partitionPoint xs n x - 1 in
+    let x0 = getD xs i nan in
+    let x1 = getD xs (suc i) nan in
+    let y0 = getD ys i nan in
     cond (eqb n 0) (holdOf (inf true) (inf false) f32-0)
     (cond (lt x (getD xs 0 nan)) (holdOf (inf true) (getD xs 0 nan) (getD ys 0 nan))
     (cond (le (getD xs (n - 1) nan) x) (holdOf (getD xs (n - 1) nan) (inf false) (getD ys (n - 1) nan))
-    (cond (getD steps i false) (holdOf (getD xs i nan) (getD xs (suc i) nan) (getD ys i nan))
-    (betweenOf (getD xs i nan) (getD xs (suc i) nan) (getD ys i nan) (getD ys (suc i) nan) (getD es i nan)))))
+    (cond (getD steps i false) (holdOf x0 x1 y0)
+    (betweenOf x0 x1 y0 (getD ys (suc i) nan) (getD es i nan)))))
