@@ -6,11 +6,12 @@
 mod begun;
 mod generator;
 mod output;
-mod source;
 mod restart;
+mod source;
 
 pub use begun::MadeFor;
 pub use begun::begin;
+use clock::Anchor;
 pub use generator::Generated;
 pub use generator::Kept;
 pub use generator::count;
@@ -19,9 +20,8 @@ pub use output::Channel;
 pub use output::Output;
 pub use output::Posted;
 pub use output::put;
-pub use source::Source;
 pub use restart::trigger;
-use clock::Anchor;
+pub use source::Source;
 ghost use mathlib.Core.Path.{_≡_};
 ghost use Rattle.voice.specs.Voice.{newVoice};
 

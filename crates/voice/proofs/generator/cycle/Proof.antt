@@ -1,4 +1,6 @@
 -- `cycle` meets its contract. Assumes nothing.
+use mir.Syntax.{w64}
+use mir.ValLaws.{toZ-ofZ}
 use borrow.Author.Needs.{needs}
 use Rattle.voice.specs.Source.{cycleOf}
 use Rattle.voice.proofs.generator.cycle.Statement.{statement}
@@ -27,11 +29,13 @@ enum-told-3 c = search needs
 
 returns : tie.Need-returns
 unfolding cycleOf
-returns c = rw (c .f64-to-i64 .ensures, c .before .floor .ensures, c .before .before .enum-told .given .1)
+returns c = let back = toZ-ofZ w64 (c .f64-to-i64 .result) (record { sfits = c .f64-to-i64 .ok }) in
+    rw (back, c .f64-to-i64 .ensures, c .before .floor .ensures, c .before .before .enum-told .given .1)
 
 returns-2 : tie.Need-returns-2
 unfolding cycleOf
-returns-2 c = rw (c .f64-to-i642 .ensures, c .before .floor2 .ensures, c .before .before .enum-told2 .given .1)
+returns-2 c = let back = toZ-ofZ w64 (c .f64-to-i642 .result) (record { sfits = c .f64-to-i642 .ok }) in
+    rw (back, c .f64-to-i642 .ensures, c .before .floor2 .ensures, c .before .before .enum-told2 .given .1)
 
 returns-3 : tie.Need-returns-3
 unfolding cycleOf
