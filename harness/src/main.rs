@@ -12,8 +12,9 @@ fn main() {
     let words: Vec<&str> = words.iter().map(String::as_str).collect();
     match words[..] {
         ["vectors", "chaos"] => vectors::chaos(),
+        ["vectors", "curves"] => vectors::curves(),
         _ => {
-            eprintln!("usage: harness vectors chaos");
+            eprintln!("usage: harness vectors chaos | curves");
             std::process::exit(2);
         }
     }

@@ -23,3 +23,18 @@ impl Lfo {
         chaos::start_at(lorenz, cycles)
     }
 }
+
+// shape.rs: the values at a position, with the points moved by the buses
+impl Lfo {
+    pub fn shape_moved_(shape: &Shape, buses: &[f32], x: f32) -> f32 {
+        let (mut xs, mut ys) = ([0.0; MAX_POINTS], [0.0; MAX_POINTS]);
+        shape.modulated(buses, &mut xs, &mut ys);
+        let n = shape.len();
+        drawn_segment(shape, &xs[..n], &ys[..n], x).eval(x)
+    }
+    pub fn path_moved_(path: &Path, buses: &[f32], t: f32) -> (f32, f32) {
+        let (mut xs, mut ys) = ([0.0; MAX_POINTS], [0.0; MAX_POINTS]);
+        path.modulated(buses, &mut xs, &mut ys);
+        path_segment(path, &xs, &ys, t).eval(t)
+    }
+}

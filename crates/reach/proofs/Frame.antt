@@ -1,20 +1,22 @@
--- The law for every count that a player reaches: in a block that `prepare` made of settings and a transport in range, with f frames played before it, the position
--- of each of its frames lies from 0 to 1, in every mode, direction and swing. Assumes nothing.
+-- The laws for every count that a player reaches: in a block that `prepare` made of settings and a transport in range, with f frames played before it, the count
+-- of each of its frames, swung or not, is at most 2 ^ 50 in size, and its position lies from 0 to 1, as an f32 too, in every mode, direction and swing. Assumes nothing.
 use mathlib.Core.Path.{_≡_}
 use mathlib.Core.Bool.{not, cond}
 use Prim.Native.Nat.{ℕ, _+_, _-_, _*_, _/_, _^_, _≤_, _<_}
-use native.Mathlib.Nat.{le-trans, le-of-lt, div-mul-le-self, le-of-mul-le-mul-right, min-eq-left}
+use native.Mathlib.Nat.{le-trans, le-refl, le-of-lt, add-le-add, div-mul-le-self, le-of-mul-le-mul-right, min-eq-left}
 use native.Mathlib.Omega.{arith}
 use lib.Dec.{T, lit≤, lit<}
 use lib.IntN.{ℤ, pos, negℤ}
-use lib.Ieee.{Float, nan, inf, fin, binary32, binary64, up, down, fits, isNan, toSigned}
+use lib.Ieee.{Float, nan, inf, fin, binary32, binary64, up, down, fits, isNan, ofBits, toSigned}
 use lib.Ieee.Fits.{add-fits, down-pos}
 use lib.Ieee.Scale.{finite}
 use Rattle.floatlaws.specs.Whole.{InUnit}
+use Rattle.floatlaws.specs.Euclid.{remEuclid}
 use Rattle.floatlaws.specs.Narrow.{narrowed}
+use Rattle.floatlaws.proofs.Euclid.{euclid-within}
 use Rattle.floatlaws.proofs.NoNan.{finite-number}
-use Rattle.floatlaws.proofs.Unit.{unit-finite}
-use Rattle.floatlaws.proofs.Size.{Sized, Size, size-finite, size-more}
+use Rattle.floatlaws.proofs.Unit.{one-float, unit-finite}
+use Rattle.floatlaws.proofs.Size.{Sized, Size, size-finite, size-more, add-size}
 use Rattle.settings.specs.declared.choices.Mode.{Mode}
 use Rattle.settings.specs.declared.choices.Mode.the-variants.{Free, Restart, OneShot}
 use Rattle.settings.specs.declared.choices.Direction.{Direction}
@@ -24,15 +26,15 @@ use Rattle.position.specs.Position.{floorOf, swungBy, positionOf}
 use Rattle.position.specs.declared.place.LoopPoint.{LoopPoint}
 use Rattle.clock.specs.Anchor.{anchorAt, cyclesAt}
 use Rattle.clock.specs.Pace.{tempoOf}
-use Rattle.clock.specs.Ready.{paceAt, lockAt, tickedAt, blockOf, preparedOf}
+use Rattle.clock.specs.Ready.{paceAt, lockAt, tickedAt, blockOf, preparedOf, phaseCountBy, phaseCount, phaseRead}
 use Rattle.clock.specs.declared.anchor.Anchor.{Anchor}
 use Rattle.clock.specs.declared.anchor.Anchor.the-variants.{Samples, Beats, Seconds}
 use Rattle.clock.specs.declared.block.Block.{Block}
 use Rattle.clock.specs.declared.free.Clock.{Clock}
 use Rattle.reach.specs.Bounds.{LoopIn, SettingsIn, TransportIn, BlockIn, AnchorIn, FreeIn, ClockIn, SwingIn}
 use Rattle.reach.proofs.Range.{position-in, narrowed-in}
-use Rattle.reach.proofs.Reach.{ticked-in, cycles-size}
-use Rattle.reach.proofs.Prepared.{tempo-of, prepared-in}
+use Rattle.reach.proofs.Reach.{reached-size, ticked-in, cycles-size}
+use Rattle.reach.proofs.Prepared.{tempo-of, phase-in, prepared-in}
 use Rattle.reach.proofs.Swing.{swing-in, floor-size, swung-in, swung-fits}
 
 anchor-fits : (a : Anchor) (b : Block) (k : ℕ) → T (fits binary64 (anchorAt a b k))
@@ -118,3 +120,18 @@ module _ (s : Settings) (c : Clock) (t : Transport) (f n k : ℕ)
 
       pub frame-number : T (not (isNan (narrowed binary32 (positionOf m d count l))))
       frame-number = finite-number (narrowed binary32 (positionOf m d count l)) frame-finite
+
+-- ---- the phase between two blocks, f frames having been played
+
+module _ (s : Settings) (c : Clock) (a : Anchor) (t : Transport) (f : ℕ) (I : SettingsIn s) (J : TransportIn t) (C : ClockIn f c) (A : AnchorIn f a) (F : f ≤ 2 ^ 40) where
+  phase-count-in : (m : Mode) → Size (phaseCountBy m s c a t) (2 ^ 46)
+  phase-count-in Free = size-more room (add-size (le-trans room (lit≤ tt)) (C .next-in) (phase-in s I))
+    where
+      room : 2 ^ 45 + f + 1 ≤ 2 ^ 46
+      room = le-trans (add-le-add (add-le-add (le-refl (2 ^ 45)) F) (le-refl 1)) (lit≤ tt)
+  phase-count-in Restart = size-more (le-trans (add-le-add (le-refl (2 ^ 45)) F) (lit≤ tt)) (reached-size (size-more (lit≤ tt) (J .beats-at)) (size-more (lit≤ tt) (J .seconds-at)) f F a A)
+  phase-count-in OneShot = size-more (le-trans (add-le-add (le-refl (2 ^ 45)) F) (lit≤ tt)) (reached-size (size-more (lit≤ tt) (J .beats-at)) (size-more (lit≤ tt) (J .seconds-at)) f F a A)
+
+  pub phase-read-in : InUnit (phaseRead s c a t)
+  unfolding phaseRead phaseCount ofBits
+  phase-read-in = narrowed-in (remEuclid binary64 (phaseCountBy (s .mode) s c a t) one-float) (euclid-within binary64 (phaseCountBy (s .mode) s c a t) one-float (size-finite (phase-count-in (s .mode))) tt (unfold fits in tt))

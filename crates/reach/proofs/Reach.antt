@@ -1,6 +1,6 @@
--- How far a count gets. A voice that has played `frames` frames has an anchor of `AnchorIn frames`: its count is at most 2 ^ 45 + frames in size, and so is
--- where it is anchored anew. Within the 2 ^ 40 frames that a player may play, a count is below 2 ^ 46, so it is finite, and its position lies from 0 to 1
--- (`position-in` of proofs/Range.antt). Assumes nothing.
+-- How far a count gets: the facts of specs/Bounds.antt hold of a new player and are kept, and what they say of a count. A voice that has played `frames` frames has a
+-- count of at most 2 ^ 45 + frames in size, and so is where it is anchored anew; a count under song lock is below 2 ^ 45. Within 2 ^ 40 frames a count is below 2 ^ 46,
+-- so it is finite. Assumes nothing.
 use mathlib.Core.Path.{_≡_, refl}
 use mathlib.Core.Bool.{Bool, true, false, _||_, cond}
 use Prim.Native.Nat.{ℕ, _+_, _-_, _*_, _^_, _≤_, zero-le}
@@ -12,9 +12,9 @@ use Rattle.floatlaws.specs.Rounded.{toF64}
 use Rattle.floatlaws.specs.Numbers.{f64-0}
 use Rattle.settings.specs.declared.choices.Mode.{Mode}
 use Rattle.settings.specs.declared.choices.Mode.the-variants.{Free, Restart, OneShot}
-use Rattle.clock.specs.Block.{beatsAt, secondsAt, freeAt}
+use Rattle.clock.specs.Block.{beatsAt, secondsAt, freeCount, freeAt}
 use Rattle.clock.specs.Free.{newClock, restartedClock, anchoredClock, followed, tickedOf}
-use Rattle.clock.specs.Anchor.{newAnchor, along, anchorAt, nextAnchor, lockedBeats, lockedSeconds, startedBy, startedOf, isGrounded, fromHere, begunBy, begunOf, cyclesAt}
+use Rattle.clock.specs.Anchor.{newAnchor, along, reachedOf, anchorAt, sampleCount, nextAnchor, lockedBeats, lockedSeconds, startedBy, startedOf, isGrounded, fromHere, begunBy, begunOf, cyclesAt}
 use Rattle.clock.specs.declared.block.Block.{Block}
 use Rattle.clock.specs.declared.block.FreeClock.{FreeClock}
 use Rattle.clock.specs.declared.block.FreeClock.the-variants as FreeClock
@@ -37,16 +37,16 @@ anchor-later (Samples c0 n inc) f g h i = (le-trans (i .0) h, size-more (grow f 
 anchor-later (Beats c0 b0 rate) f g h i = i
 anchor-later (Seconds c0 s0 rate) f g h i = i
 
-pub next-in : (a : Anchor) (f : ℕ) → AnchorIn f a → AnchorIn (f + 1) (nextAnchor a)
-next-in (Samples c0 n inc) f i = (more (i .0), size-more (same f n (2 ^ 45)) (i .1), i .2)
+pub next-anchor-in : (a : Anchor) (f : ℕ) → AnchorIn f a → AnchorIn (f + 1) (nextAnchor a)
+next-anchor-in (Samples c0 n inc) f i = (more (i .0), size-more (same f n (2 ^ 45)) (i .1), i .2)
   where
     more : n ≤ f → n + 1 ≤ f + 1
     more h = omega arith
 
     same : (f n c : ℕ) → c + (f - n) ≤ c + (f + 1 - (n + 1))
     same f n c = omega arith
-next-in (Beats c0 b0 rate) f i = i
-next-in (Seconds c0 s0 rate) f i = i
+next-anchor-in (Beats c0 b0 rate) f i = i
+next-anchor-in (Seconds c0 s0 rate) f i = i
 
 zero-size : Size f64-0 0
 unfolding ofBits
@@ -64,6 +64,21 @@ along-size n f h F c i =
   where
     back : (f n c : ℕ) → n ≤ f → c + (f - n) + n * 1 ≤ c + f
     back f n c h = omega arith
+
+-- no more samples are counted than frames were played
+pub sample-count-in : (a : Anchor) (f : ℕ) → AnchorIn f a → sampleCount a ≤ f
+sample-count-in (Samples c0 n inc) f i = i .0
+sample-count-in (Beats c0 b0 rate) f i = zero-le
+sample-count-in (Seconds c0 s0 rate) f i = zero-le
+
+-- at a song position that a block or a transport in range has
+module _ {beats seconds : Float} (U : Size beats (2 ^ 31 + 4096 * 1000)) (W : Size seconds (2 ^ 31 + 4096)) (f : ℕ) (F : f ≤ 2 ^ 40) where
+  pub reached-size : (a : Anchor) → AnchorIn f a → Size (reachedOf a beats seconds) (2 ^ 45 + f)
+  reached-size (Samples c0 n inc) i = along-size n f (i .0) F (i .1) (i .2)
+  reached-size (Beats c0 b0 rate) i =
+      size-more (le-trans (lit≤ tt) (le-add-right (2 ^ 45) f)) (add-size (lit≤ tt) (i .0) (mul-size (lit≤ tt) (sub-size (lit≤ tt) U (i .1)) (i .2)))
+  reached-size (Seconds c0 s0 rate) i =
+      size-more (le-trans (lit≤ tt) (le-add-right (2 ^ 45) f)) (add-size (lit≤ tt) (i .0) (mul-size (lit≤ tt) (sub-size (lit≤ tt) W (i .1)) (i .2)))
 
 module _ (b : Block) (B : BlockIn b) where
   pub started-in : (f : ℕ) → AnchorIn f (startedOf b)
@@ -89,11 +104,7 @@ module _ (b : Block) (B : BlockIn b) where
 
     module _ (f : ℕ) (F : f ≤ 2 ^ 40) where
       pub anchor-size : (a : Anchor) → AnchorIn f a → Size (anchorAt a b k) (2 ^ 45 + f)
-      anchor-size (Samples c0 n inc) i = along-size n f (i .0) F (i .1) (i .2)
-      anchor-size (Beats c0 b0 rate) i =
-          size-more (le-trans (lit≤ tt) (le-add-right (2 ^ 45) f)) (add-size (lit≤ tt) (i .0) (mul-size (lit≤ tt) (sub-size (lit≤ tt) beats-size (i .1)) (i .2)))
-      anchor-size (Seconds c0 s0 rate) i =
-          size-more (le-trans (lit≤ tt) (le-add-right (2 ^ 45) f)) (add-size (lit≤ tt) (i .0) (mul-size (lit≤ tt) (sub-size (lit≤ tt) seconds-size (i .1)) (i .2)))
+      anchor-size a i = reached-size beats-size seconds-size f F a i
 
       -- anchored anew where it stands
       here-in : (a : Anchor) → AnchorIn f a → AnchorIn f (fromHere a b k)
@@ -122,6 +133,11 @@ module _ (b : Block) (B : BlockIn b) where
           go (SongLock.Seconds rate) j (Seconds c0 s0 p) i = either (isGrounded s0 p rate c0 (b .phase)) (Seconds c0 s0 p) (lockedSeconds (b .phase) rate) i (B .phase-in, zero-size, j)
 
 -- ---- the free clock, in a player that has played `frames` frames before a block
+
+pub free-count-in : (free : FreeClock) (f : ℕ) → FreeIn f free → freeCount free ≤ f
+free-count-in (FreeClock.Beats p) f i = zero-le
+free-count-in (FreeClock.Seconds h) f i = zero-le
+free-count-in (FreeClock.Counting c0 n) f i = i .0
 
 pub new-clock-in : ClockIn 0 newClock
 new-clock-in = record { counted-in = zero-le; start-in = size-more zero-le zero-size; next-in = size-more zero-le zero-size }

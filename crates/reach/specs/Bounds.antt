@@ -6,7 +6,7 @@
 --     AnchorIn f anchor    of its voice's anchor
 --
 -- A new player has them at 0 (`new-clock-in`, `new-anchor-in`). A block of n frames takes `ClockIn f` to `ClockIn (f + n)` (`clock-in`), in every mode and under
--- song lock or not. In it the anchor goes from `AnchorIn (f + k)` at sample k to `AnchorIn (f + k + 1)` at the next (`next-in`, in Free mode too, where the anchor
+-- song lock or not. In it the anchor goes from `AnchorIn (f + k)` at sample k to `AnchorIn (f + k + 1)` at the next (`next-anchor-in`, in Free mode too, where the anchor
 -- counts on though nothing reads it), and keeps `AnchorIn (f + k)` where it is begun (`begun-in`) or restarted (`started-in`). Nothing is asked of the settings and
 -- the transport of earlier blocks, so both may change at will, within what the questions accept: `SettingsIn` and `TransportIn` are what is left of those, once
 -- more for each block. Where f stays within 2 ^ 40, every count, swung or not, is finite and below 2 ^ 51 in size (proofs/Frame.antt). Assumes nothing.

@@ -9,7 +9,7 @@ use lib.Ieee.{Float}
 use Rattle.settings.specs.Choices.{lfoTypes, lfoTypeAt, modes, modeAt, directions, directionAt, feels, feelAt, noYes, yesNoAt}
 use Rattle.settings.specs.Divisions.{divisionAt}
 use Rattle.settings.specs.Times.{rates, syncedRate, hzRate, rateAt, spans, syncedSpan, spanAt, scales, scaleAt}
-use Rattle.settings.specs.Codes.{smooths, smoothAt, settingsAt, transportAt, withKind, withMode, withDirection, withYesNo, withRate, withSpan, withScale, withSmooth, rateKnown, spanKnown, scaleKnown, smoothKnown, settingsKnown, transportKnown, isSettings, isTransport}
+use Rattle.settings.specs.Codes.{smooths, smoothAt, withSpans, withSwitches, settingsAt, transportAt, withKind, withMode, withDirection, withYesNo, withRate, withSpan, withScale, withSmooth, rateKnown, spanKnown, scaleKnown, smoothKnown, settingsKnown, transportKnown, isSettings, isTransport}
 use Rattle.settings.specs.declared.choices.LfoType.{LfoType}
 use Rattle.settings.specs.declared.choices.LfoTypeCode.{LfoTypeCode}
 use Rattle.settings.specs.declared.choices.LfoTypeCode.the-variants as LfoTypeCode
@@ -195,7 +195,7 @@ pub rate-known : (c : RateCodes) → isRate (rateAt c) ≡ rateKnown c
 unfolding rateAt
 rate-known c = at (c .code)
   where
-    at : (k : ℕ) → isRate (getD (rates c) k RateCode.Unknown) ≡ cond (eqb k 0) (ltb (c .division) 15 && ltb (c .feel) 3) (eqb k 1 && ltb (c .x10) 2)
+    at : (k : ℕ) → isRate (getD (rates c) k RateCode.Unknown) ≡ rateKnown (record { code = k; division = c .division; feel = c .feel; hz = c .hz; x10 = c .x10 })
     at zero = rw (synced-known, division-known, feel-known)
     at (suc zero) = rw (hz-known, yes-no-known)
     at (suc (suc k)) = rw (eqb·suc-zero, eqb·suc-suc, eqb·suc-zero)
@@ -208,7 +208,7 @@ pub span-known : (c : SpanCodes) → isSpan (spanAt c) ≡ spanKnown c
 unfolding spanAt
 span-known c = at (c .code)
   where
-    at : (k : ℕ) → isSpan (getD (spans c) k SpanCode.Unknown) ≡ cond (eqb k 1) (ltb (c .division) 15) (ltb k 3)
+    at : (k : ℕ) → isSpan (getD (spans c) k SpanCode.Unknown) ≡ spanKnown (record { code = k; division = c .division; seconds = c .seconds })
     at zero = refl
     at (suc zero) = rw (span-synced-known, division-known)
     at (suc (suc zero)) = refl
@@ -217,7 +217,7 @@ span-known c = at (c .code)
 -- ---- whole records
 
 pub settings-known : (c : SettingsCodes) → isSettings (settingsAt c) ≡ settingsKnown c
-unfolding settingsAt settingsKnown
+unfolding settingsAt withSwitches withSpans settingsKnown
 settings-known c =
     simp (and-assoc)
     (with-kind isSettings refl (lfoTypeAt (c .kind)) (kind-known (c .kind)) λ kind.
@@ -226,10 +226,10 @@ settings-known c =
     with-rate isSettings refl (rateAt (c .rate)) (rate-known (c .rate)) λ rate.
     with-yes-no isSettings refl (yesNoAt (c .«song_lock»)) (yes-no-known (c .«song_lock»)) λ lock.
     with-yes-no isSettings refl (yesNoAt (c .swing)) (yes-no-known (c .swing)) λ swing.
+    with-yes-no isSettings refl (yesNoAt (c .«phase_snap»)) (yes-no-known (c .«phase_snap»)) λ snap.
     with-span isSettings refl (spanAt (c .«fade_in»)) (span-known (c .«fade_in»)) λ fade.
     with-span isSettings refl (spanAt (c .delay)) (span-known (c .delay)) λ delay.
-    with-smooth isSettings refl (smoothAt (c .smooth)) (smooth-known (c .smooth)) λ smooth.
-    with-yes-no isSettings refl (yesNoAt (c .«phase_snap»)) (yes-no-known (c .«phase_snap»)) (λ snap. refl) ∙ and-true _)
+    with-smooth isSettings refl (smoothAt (c .smooth)) (smooth-known (c .smooth)) (λ smooth. refl) ∙ and-true _)
 
 pub transport-known : (c : TransportCodes) → isTransport (transportAt c) ≡ transportKnown c
 unfolding transportAt transportKnown

@@ -85,19 +85,15 @@ module _ {A : Type 0} (u : A) where
 
 -- ---- whole records
 
-unfoldable pub settingsAt : SettingsCodes → SettingsCode
-settingsAt c =
-    let u = SettingsCode.Unknown in
-    withKind u (lfoTypeAt (c .kind)) λ kind.
-    withMode u (modeAt (c .mode)) λ mode.
-    withDirection u (directionAt (c .direction)) λ direction.
-    withRate u (rateAt (c .rate)) λ rate.
-    withYesNo u (yesNoAt (c .«song_lock»)) λ lock.
-    withYesNo u (yesNoAt (c .swing)) λ swing.
-    withSpan u (spanAt (c .«fade_in»)) λ fadeIn.
-    withSpan u (spanAt (c .delay)) λ delay.
-    withSmooth u (smoothAt (c .smooth)) λ smooth.
-    withYesNo u (yesNoAt (c .«phase_snap»)) λ snap.
+abbrev unknown : SettingsCode
+unknown = SettingsCode.Unknown
+
+-- the spans and the coefficient, with the rest known
+unfoldable pub withSpans : LfoType → Mode → Direction → Rate → Bool → Bool → Bool → SettingsCodes → SettingsCode
+withSpans kind mode direction rate lock swing snap c =
+    withSpan unknown (spanAt (c .«fade_in»)) λ fade.
+    withSpan unknown (spanAt (c .delay)) λ delay.
+    withSmooth unknown (smoothAt (c .smooth)) λ smooth.
     SettingsCode.Known
     (record {
       kind = kind;
@@ -106,7 +102,7 @@ settingsAt c =
       rate = rate;
       «song_lock» = lock;
       swing = swing;
-      «fade_in» = fadeIn;
+      «fade_in» = fade;
       delay = delay;
       smooth = smooth;
       phase = c .phase;
@@ -114,11 +110,24 @@ settingsAt c =
       «grid_x» = c .«grid_x»;
     })
 
+-- each yes or no, with the choices known
+unfoldable pub withSwitches : LfoType → Mode → Direction → Rate → SettingsCodes → SettingsCode
+withSwitches kind mode direction rate c =
+    withYesNo unknown (yesNoAt (c .«song_lock»)) λ lock.
+    withYesNo unknown (yesNoAt (c .swing)) λ swing.
+    withYesNo unknown (yesNoAt (c .«phase_snap»)) λ snap. withSpans kind mode direction rate lock swing snap c
+
+unfoldable pub settingsAt : SettingsCodes → SettingsCode
+settingsAt c =
+    withKind unknown (lfoTypeAt (c .kind)) λ kind.
+    withMode unknown (modeAt (c .mode)) λ mode.
+    withDirection unknown (directionAt (c .direction)) λ direction.
+    withRate unknown (rateAt (c .rate)) λ rate. withSwitches kind mode direction rate c
+
 unfoldable pub transportAt : TransportCodes → TransportCode
 transportAt c =
-    let u = TransportCode.Unknown in
-    withYesNo u (yesNoAt (c .playing)) λ playing.
-    withScale u (scaleAt (c .scale)) λ scale.
+    withYesNo TransportCode.Unknown (yesNoAt (c .playing)) λ playing.
+    withScale TransportCode.Unknown (scaleAt (c .scale)) λ scale.
     TransportCode.Known
     (record {
       «sample_rate» = c .«sample_rate»;
@@ -153,10 +162,10 @@ settingsKnown c =
     && rateKnown (c .rate)
     && ltb (c .«song_lock») 2
     && ltb (c .swing) 2
+    && ltb (c .«phase_snap») 2
     && spanKnown (c .«fade_in»)
     && spanKnown (c .delay)
     && smoothKnown (c .smooth)
-    && ltb (c .«phase_snap») 2
 
 unfoldable pub transportKnown : TransportCodes → Bool
 transportKnown c = ltb (c .playing) 2 && scaleKnown (c .scale)
