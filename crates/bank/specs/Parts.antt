@@ -22,28 +22,38 @@ use Rattle.bank.specs.Render.{voiceAfter, outs, lastCount}
 
 -- of settings s and a curve q, in the block b of `frames` frames, for the voice v
 module _ (s : Settings) (q : Curve) (b : Block) (frames : ℕ) (v : Voice) where
+  -- frames by these settings
+  abbrev after : ℕ → ℕ → Voice → Voice
+  after = voiceAfter (s .kind) (s .mode) (s .direction) q b
+
+  abbrev values : ℕ → (Frame → Float) → ℕ → Voice → List Float
+  values = outs (s .kind) (s .mode) (s .direction) q b
+
+  abbrev last : ℕ → ℕ → Voice → Float → Float
+  last = lastCount (s .kind) (s .mode) (s .direction) q b
+
   -- the voice as the block begins
   unfoldable pub begun : Voice
   begun = begunVoice s b 0 v
 
   -- after k frames it restarts and begins again; a restart beyond the end means the end
   unfoldable pub restarted : ℕ → Voice
-  restarted k = begunVoice s b k (triggeredVoice s b (voiceAfter s q b 0 k begun))
+  restarted k = begunVoice s b k (triggeredVoice s b (after 0 k begun))
 
   -- the voice after the block
   unfoldable pub partsVoice : Pending → Voice
-  partsVoice None = voiceAfter s q b 0 frames begun
-  partsVoice (At at) = let k = min at frames in voiceAfter s q b k (frames - k) (restarted k)
+  partsVoice None = after 0 frames begun
+  partsVoice (At at) = let k = min at frames in after k (frames - k) (restarted k)
 
   -- one value of each frame
   unfoldable pub partsOuts : Pending → (Frame → Float) → List Float
-  partsOuts None f = outs s q b 0 f frames begun
-  partsOuts (At at) f = let k = min at frames in outs s q b 0 f k begun ++ outs s q b k f (frames - k) (restarted k)
+  partsOuts None f = values 0 f frames begun
+  partsOuts (At at) f = let k = min at frames in values 0 f k begun ++ values k f (frames - k) (restarted k)
 
   -- the cycle count of the last frame, 0 where there is none
   unfoldable pub partsCount : Pending → Float
-  partsCount None = lastCount s q b 0 frames begun f64-0
-  partsCount (At at) = let k = min at frames in lastCount s q b k (frames - k) (restarted k) (lastCount s q b 0 k begun f64-0)
+  partsCount None = last 0 frames begun f64-0
+  partsCount (At at) = let k = min at frames in last k (frames - k) (restarted k) (last 0 k begun f64-0)
 
 -- finished: a One-shot whose last frame's swung cycle count is 1 or more; a block of no frames is not
 unfoldable pub finishedOf : Mode → Float → Bool

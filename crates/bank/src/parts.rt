@@ -56,7 +56,23 @@ fn begin_stretch<'a>(
 {
     let w = voice::begin(s, block, from as u64, v);
     render(
-        s, block, xs, ys, es, steps, n, times, closed, loopback, w, kept, last, from, count, x, y,
+        s,
+        block,
+        xs,
+        ys,
+        es,
+        steps,
+        n,
+        times,
+        closed,
+        loopback,
+        w,
+        kept,
+        last,
+        from,
+        count,
+        x,
+        y,
     )
 }
 
@@ -84,19 +100,66 @@ pub fn render_parts<'a>(
 {
     match at {
         Pending::None => begin_stretch(
-            s, block, xs, ys, es, steps, n, times, closed, loopback, v, kept, 0.0, 0, frames, x, y,
+            s,
+            block,
+            xs,
+            ys,
+            es,
+            steps,
+            n,
+            times,
+            closed,
+            loopback,
+            v,
+            kept,
+            0.0,
+            0,
+            frames,
+            x,
+            y,
         ),
         Pending::At(k) => {
             let split = lesser(k, frames);
             let a = begin_stretch(
-                s, block, xs, ys, es, steps, n, times, closed, loopback, v, kept, 0.0, 0, split, x, y,
+                s,
+                block,
+                xs,
+                ys,
+                es,
+                steps,
+                n,
+                times,
+                closed,
+                loopback,
+                v,
+                kept,
+                0.0,
+                0,
+                split,
+                x,
+                y,
             );
             let before = a.voice;
             let w = voice::trigger(s, block, before);
             let held = a.kept;
             begin_stretch(
-                s, block, xs, ys, es, steps, n, times, closed, loopback, w, held, a.count, split,
-                frames - split, x, y,
+                s,
+                block,
+                xs,
+                ys,
+                es,
+                steps,
+                n,
+                times,
+                closed,
+                loopback,
+                w,
+                held,
+                a.count,
+                split,
+                frames - split,
+                x,
+                y,
             )
         }
     }

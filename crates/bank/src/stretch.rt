@@ -56,8 +56,21 @@ pub fn render<'a>(
         let next = anchor.next();
         anchor = next;
         let g = voice::generate(
-            kind, mode, direction, block, source, held, xs, ys, es, steps, n, times, closed,
-            loopback, c,
+            kind,
+            mode,
+            direction,
+            block,
+            source,
+            held,
+            xs,
+            ys,
+            es,
+            steps,
+            n,
+            times,
+            closed,
+            loopback,
+            c,
         );
         let after = g.source;
         source = after;

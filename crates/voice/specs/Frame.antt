@@ -3,7 +3,9 @@ use Prim.Native.Nat.{ℕ}
 use lib.Ieee.{Float}
 use Rattle.clock.specs.declared.block.Block.{Block}
 use Rattle.clock.specs.Anchor.{nextAnchor}
-use Rattle.settings.specs.declared.record.Settings.{Settings}
+use Rattle.settings.specs.declared.choices.LfoType.{LfoType}
+use Rattle.settings.specs.declared.choices.Mode.{Mode}
+use Rattle.settings.specs.declared.choices.Direction.{Direction}
 use Rattle.voice.specs.declared.Voice.{Voice}
 use Rattle.voice.specs.Curve.{Curve}
 use Rattle.voice.specs.Generate.{countAt, sourceAfter, rawOf}
@@ -17,12 +19,12 @@ pub record Frame : Type 0 where
   pub count : Float
 
 -- sample k of a block, for a voice v
-unfoldable pub frameOf : Settings → Curve → Block → ℕ → Voice → Frame
-frameOf s q b k v =
-    let c = countAt (s .mode) b (v .anchor) k in
-    let source = sourceAfter (s .kind) (s .mode) b (v .source) c in
-    let raw = rawOf (s .kind) (s .mode) (s .direction) q source c in
-    let out = posted (s .kind) (b .smooth) (v .output) (raw .x) (raw .y) in
+unfoldable pub frameOf : LfoType → Mode → Direction → Curve → Block → ℕ → Voice → Frame
+frameOf kind mode direction q b k v =
+    let c = countAt mode b (v .anchor) k in
+    let source = sourceAfter kind mode b (v .source) c in
+    let raw = rawOf kind mode direction q source c in
+    let out = posted kind (b .smooth) (v .output) (raw .x) (raw .y) in
     record {
       voice = record { anchor = nextAnchor (v .anchor); source = source; output = out .output; «made_for» = v .«made_for» };
       x = out .x;
