@@ -38,16 +38,20 @@ fn one_number(t: &mut Tally, n: u64) {
     });
 }
 
-// `min` of −0 and 0 is left open by Rust as well: ours is −0.
+// Rust leaves open which zero `min` gives for −0 and 0 too: ours is −0. No `min` of the LFO meets them, as its bounds are above 0.
 fn two_f64(t: &mut Tally, x: f64, y: f64) {
     let input = |name: &'static str| move || format!("{name} of {x:e} and {y:e}");
     t.max_f64(ffi::float_max_f64(x, y), x.max(y), input("max_f64"));
-    if !(x == 0.0 && y == 0.0) {
-        t.f64(ffi::float_min_f64(x, y), x.min(y), input("min_f64"));
-    }
+    let min = if x == 0.0 && y == 0.0 {
+        f64::from_bits(x.to_bits() | y.to_bits())
+    } else {
+        x.min(y)
+    };
+    t.f64(ffi::float_min_f64(x, y), min, input("min_f64"));
+    let rest = x.rem_euclid(y);
     t.f64(
         ffi::float_rem_euclid_f64(x, y),
-        x.rem_euclid(y),
+        rest,
         input("rem_euclid_f64"),
     );
 }
@@ -55,12 +59,16 @@ fn two_f64(t: &mut Tally, x: f64, y: f64) {
 fn two_f32(t: &mut Tally, x: f32, y: f32) {
     let input = |name: &'static str| move || format!("{name} of {x:e} and {y:e}");
     t.max_f32(ffi::float_max_f32(x, y), x.max(y), input("max_f32"));
-    if !(x == 0.0 && y == 0.0) {
-        t.f32(ffi::float_min_f32(x, y), x.min(y), input("min_f32"));
-    }
+    let min = if x == 0.0 && y == 0.0 {
+        f32::from_bits(x.to_bits() | y.to_bits())
+    } else {
+        x.min(y)
+    };
+    t.f32(ffi::float_min_f32(x, y), min, input("min_f32"));
+    let rest = x.rem_euclid(y);
     t.f32(
         ffi::float_rem_euclid_f32(x, y),
-        x.rem_euclid(y),
+        rest,
         input("rem_euclid_f32"),
     );
 }
