@@ -1,1 +1,2 @@
 mod Parity
+mod Cyclic

@@ -122,8 +122,7 @@ pub fn position(mode: Mode, direction: Direction, c: f64, loopback: LoopPoint) -
     ensures { λ r. ⌜ r ≡ positionOf mode direction c loopback ⌝ }
 {
     match mode {
-        Mode::Free => cyclic(direction, c),
-        Mode::Restart => cyclic(direction, c),
+        Mode::Free | Mode::Restart => cyclic(direction, c),
         Mode::OneShot => once(direction, extrema::max_f64(c, 0.0), loopback),
     }
 }

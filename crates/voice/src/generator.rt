@@ -184,8 +184,8 @@ fn cycle(mode: Mode, c: f64) -> i64
     ensures { λ r. ⌜ r ≡ cycleOf mode c ⌝ }
 {
     match mode {
-        Mode::Free => saturate::f64_to_i64(whole::floor(c)),
-        Mode::Restart => saturate::f64_to_i64(whole::floor(c)),
+        Mode::Free => whole::floor_to_i64(c),
+        Mode::Restart => whole::floor_to_i64(c),
         Mode::OneShot => 0,
     }
 }
