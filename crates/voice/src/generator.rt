@@ -219,7 +219,8 @@ fn step(mode: Mode, c: f64, h: f32) -> f32
     }
 }
 
-fn is_path(kind: LfoType) -> bool
+// Whether it is the type whose points are a path's.
+pub fn is_path(kind: LfoType) -> bool
     ensures { λ r. ⌜ r ≡ isPath kind ⌝ }
 {
     match kind {

@@ -16,6 +16,7 @@ pub use generator::Generated;
 pub use generator::Kept;
 pub use generator::count;
 pub use generator::generate;
+pub use generator::is_path;
 pub use output::Channel;
 pub use output::Output;
 pub use output::Posted;

@@ -1,0 +1,5 @@
+pub mod Caches
+pub mod Anchors
+pub mod Curves
+pub mod Blocks
+pub mod Slots

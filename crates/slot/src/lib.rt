@@ -1,0 +1,65 @@
+// The port of lfo/mod.rs, `Lfo` with its `new`, and of lfo/bank.rs, `LfoBank::process_scalar`: an LFO slot with one voice, and a block of it.
+//
+// What a slot plays depends on its `lfo` and its `voice` alone. The `cache` keeps what frames read, the points as moved by the buses, and the
+// segments last found, from one block to the next: `SlotIn` of specs/Slot.antt says when they belong to the rest.
+mod cache;
+mod moved;
+mod playing;
+
+pub use cache::Cache;
+pub use cache::current;
+use clock::Clock;
+pub use moved::Lists;
+pub use moved::loop_point;
+use path::Path;
+pub use playing::finished;
+pub use playing::process;
+use points::POINT_BUSES;
+use settings::Settings;
+use shape::Shape;
+use voice::Voice;
+ghost use Rattle.slot.specs.Slot.{Makes};
+
+// An LFO's settings, curves, bus values and free clock.
+pub struct Lfo {
+    pub settings: Settings,
+    pub shape: Shape,
+    pub path: Path,
+    pub buses: [f32; POINT_BUSES],
+    pub clock: Clock,
+}
+
+pub struct Slot {
+    pub lfo: Lfo,
+    pub voice: Voice,
+    pub cache: Cache,
+}
+
+// The slot after a block, and whether a One-shot has reached its end in it.
+pub struct Processed {
+    pub slot: Slot,
+    pub finished: bool,
+}
+
+impl Slot {
+    // A slot with these settings, each number in its range, the init shape and path, and a voice whose random values come from `seed`.
+    pub fn new(settings: Settings, seed: u64) -> Self
+        ensures { λ r. ⌜ Makes settings seed r ⌝ }
+    {
+        let stored = settings.clamped();
+        let shape = Shape::default();
+        let path = Path::default();
+        let buses = [0.0f32; POINT_BUSES];
+        let clock = Clock::new();
+        let voice = Voice::new(seed);
+        let cache = Cache::new();
+        let lfo = Lfo {
+            settings: stored,
+            shape,
+            path,
+            buses,
+            clock,
+        };
+        Slot { lfo, voice, cache }
+    }
+}
