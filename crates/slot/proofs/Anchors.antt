@@ -4,7 +4,6 @@ use Prim.Native.Nat.{ℕ, zero, suc, _+_, _-_, _^_, _≤_, min}
 use native.Mathlib.Nat.{min-le-right}
 use native.Mathlib.Omega.{arith}
 use lib.Dec.{lit≤}
-use Rattle.clock.specs.declared.anchor.Anchor.{Anchor}
 use Rattle.clock.specs.declared.block.Block.{Block}
 use Rattle.clock.specs.Anchor.{nextAnchor}
 use Rattle.settings.specs.declared.choices.Mode.{Mode}
@@ -69,19 +68,28 @@ module _ (s : Settings) (q : Curve) (b : Block) where
     after-in from (suc n) v i =
         anchor-later (nextAnchor (after from n v .anchor)) (f + (from + n) + 1) (f + (from + suc n)) (omega arith) (next-anchor-in (after from n v .anchor) (f + (from + n)) (after-in from n v i))
 
+    -- as the block begins
+    pub begun-in-block : (frames : ℕ) (v : Voice) → AnchorIn f (v .anchor) → f ≤ 2 ^ 40 → AnchorIn (f + 0) (begun s q b frames v .anchor)
+    unfolding begun
+    begun-in-block frames v i F = begun-voice-in 0 v (lit≤ tt) (omega arith) (anchor-later (v .anchor) f (f + 0) (omega arith) i)
+
+    -- and as it begins again after k frames
+    pub restarted-in-block : (frames : ℕ) (v : Voice) (k : ℕ) → k ≤ frames → frames ≤ 4096 → f + frames ≤ 2 ^ 40 → AnchorIn f (v .anchor) → AnchorIn (f + k) (restarted s q b frames v k .anchor)
+    unfolding restarted
+    restarted-in-block frames v k within K F i =
+        let from = begun s q b frames v in
+        let first = after-in 0 k from (begun-in-block frames v i (omega arith)) in
+        begun-voice-in k (triggeredVoice s b (after 0 k from)) (omega arith) (omega arith)
+        (triggered-in (f + k) (after 0 k from) (anchor-later (after 0 k from .anchor) (f + (0 + k)) (f + k) (omega arith) first))
+
     pub parts-in : (frames : ℕ) (v : Voice) (at : Pending) → frames ≤ 4096 → f + frames ≤ 2 ^ 40 → AnchorIn f (v .anchor) → AnchorIn (f + frames) (partsVoice s q b frames v at .anchor)
-    unfolding partsVoice begun restarted
+    unfolding partsVoice
     parts-in frames v None K F i =
-        let from = begunVoice s b 0 v in
-        anchor-later (after 0 frames from .anchor) (f + (0 + frames)) (f + frames) (omega arith)
-        (after-in 0 frames from (begun-voice-in 0 v (lit≤ tt) (omega arith) (anchor-later (v .anchor) f (f + 0) (omega arith) i)))
+        let from = begun s q b frames v in
+        anchor-later (after 0 frames from .anchor) (f + (0 + frames)) (f + frames) (omega arith) (after-in 0 frames from (begun-in-block frames v i (omega arith)))
     parts-in frames v (At at) K F i =
         let k = min at frames in
         let within : min at frames ≤ frames = min-le-right at frames in
-        let from = begunVoice s b 0 v in
-        let on = triggeredVoice s b (after 0 k from) in
-        let again = begunVoice s b k on in
-        let first = after-in 0 k from (begun-voice-in 0 v (lit≤ tt) (omega arith) (anchor-later (v .anchor) f (f + 0) (omega arith) i)) in
-        let there = anchor-later (after 0 k from .anchor) (f + (0 + k)) (f + k) (omega arith) first in
+        let again = restarted s q b frames v k in
         anchor-later (after k (frames - k) again .anchor) (f + (k + (frames - k))) (f + frames) (omega arith)
-        (after-in k (frames - k) again (begun-voice-in k on (omega arith) (omega arith) (triggered-in (f + k) (after 0 k from) there)))
+        (after-in k (frames - k) again (restarted-in-block frames v k within K F i))

@@ -1,11 +1,9 @@
 -- A block of a slot: what its calls ask, and what they give together. Assumes nothing.
-use mathlib.Core.Path.{_≡_, refl, sym, ap, subst, _∙_}
+use mathlib.Core.Path.{_≡_, sym, ap, subst, _∙_}
 use mathlib.Core.Bool.{Bool, true}
-use mathlib.Core.List.{List, _++_}
+use mathlib.Core.List.{List}
 use Prim.Native.Nat.{ℕ, _+_, _^_, _≤_, _<_}
-use native.Mathlib.Nat.{le-trans}
 use native.Mathlib.Omega.{arith}
-use lib.ListN.{drop}
 use lib.Ieee.{Float}
 use Rattle.shape.specs.declared.Shape.{Shape}
 use Rattle.shape.specs.declared.Loopback.{Loopback}
@@ -21,19 +19,16 @@ use Rattle.reach.proofs.Reach.{sample-count-in, free-count-in}
 use Rattle.reach.proofs.Frame as frame
 use Rattle.voice.specs.declared.Voice.{Voice}
 use Rattle.voice.specs.declared.begun.MadeFor.the-variants as MadeFor
-use Rattle.voice.specs.declared.generator.Kept.{Kept}
-use Rattle.voice.specs.Curve.{Curve, Searchable, KeptFor}
 use Rattle.bank.specs.declared.parts.Pending.{Pending}
 use Rattle.bank.specs.declared.stretch.Rendered.{Rendered}
 use Rattle.bank.specs.Render.{Stretch}
-use Rattle.bank.specs.Parts.{partsVoice, partsCount, partsOuts, finishedOf, Plays}
+use Rattle.bank.specs.Parts.{finishedOf, Plays}
 use Rattle.slot.specs.declared.moved.Lists.{Lists}
 use Rattle.slot.specs.declared.cache.Cache.{Cache}
 use Rattle.slot.specs.declared.Slot.{Slot}
-use Rattle.slot.specs.declared.Processed.{Processed}
 use Rattle.slot.specs.Moved.{LoopbackIn, listsOf, curveWith, curveOf}
 use Rattle.slot.specs.Cached.{currentOf, CacheFor}
-use Rattle.slot.specs.Slot.{SlotIn, slotCurve, slotPrepared, slotVoice, slotOuts, slotCount, clockedLfo, Ready, Processes}
+use Rattle.slot.specs.Slot.{SlotIn, slotCurve, slotPrepared, clockedLfo, Ready, Processes}
 use Rattle.slot.proofs.Caches.{current-for}
 use Rattle.slot.proofs.Anchors.{parts-in, parts-made}
 
@@ -115,6 +110,7 @@ module _ (slot : Slot) (t : Transport) (frames : ℕ) (x y : List Float) (h : Re
               path-short = i .path-short;
               loopback-in = i .loopback-in;
               searchable = i .searchable;
+              loop-in = i .loop-in;
               clock-in =
                   subst (λ (z : Prepared). ClockIn (f + frames) (z .clock)) (sym e)
                   (frame.clock-in s (slot .lfo .clock) t f frames 0 (h .settings-in) (h .transport-in) (i .clock-in) (h .short) w (omega arith) .1);

@@ -3,7 +3,6 @@ use mathlib.Core.Path.{_≡_, refl, sym, ap, subst, _∙_}
 use mathlib.Core.Bool.{Bool, true, false, _&&_, cond}
 use mathlib.Core.List.{List}
 use Prim.Native.Nat.{ℕ, zero, suc}
-use native.Mathlib.Omega.{arith}
 use lib.Dec.{T, eqb→eq}
 use lib.Ieee.{Float}
 use Rattle.shape_segments.specs.Segments.{emptySegment, containsOf}

@@ -16,7 +16,7 @@ use Rattle.clock.specs.declared.free.Clock.{Clock}
 use Rattle.clock.specs.declared.ready.Prepared.{Prepared}
 use Rattle.clock.specs.Free.{newClock}
 use Rattle.clock.specs.Ready.{preparedOf}
-use Rattle.reach.specs.Bounds.{AnchorIn, ClockIn, SettingsIn, TransportIn}
+use Rattle.reach.specs.Bounds.{AnchorIn, ClockIn, LoopIn, SettingsIn, TransportIn}
 use Rattle.voice.specs.declared.Voice.{Voice}
 use Rattle.voice.specs.declared.begun.MadeFor.the-variants as MadeFor
 use Rattle.voice.specs.Curve.{Curve, Searchable}
@@ -49,6 +49,7 @@ pub record SlotIn (frames : ℕ) (slot : Slot) : Type 0 where
   pub path-short : slot .lfo .path .len ≤ 64
   pub loopback-in : LoopbackIn (slot .lfo .shape .loopback) (slot .lfo .shape .len)
   pub searchable : (kind : LfoType) → Searchable kind (slotCurve kind (slot .lfo))
+  pub loop-in : (kind : LfoType) → LoopIn (slotCurve kind (slot .lfo) .from)
   pub clock-in : ClockIn frames (slot .lfo .clock)
   pub anchor-in : AnchorIn frames (slot .voice .anchor)
   -- a fresh cache is that of the type that the voice last began a stretch for

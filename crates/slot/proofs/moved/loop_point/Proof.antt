@@ -1,7 +1,7 @@
 -- `loop_point` meets its contract. Assumes nothing.
 use native.Mathlib.Omega.{arith}
 use borrow.Author.Needs.{needs}
-use Rattle.slot.specs.Moved.{LoopbackIn, loopOf}
+use Rattle.slot.specs.Moved.{loopOf}
 use Rattle.slot.proofs.moved.loop_point.Statement.{statement}
 use Rattle.slot.proofs.moved.loop_point.Tie as tie
 

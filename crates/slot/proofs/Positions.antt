@@ -1,0 +1,51 @@
+-- Every frame of a block is played at a position from 0 to 1, also as an f32: those before the restart and those from it on. Assumes nothing.
+use Prim.Native.Nat.{ℕ, _+_, _^_, _≤_, min}
+use native.Mathlib.Nat.{min-le-right}
+use native.Mathlib.Omega.{arith}
+use Rattle.floatlaws.specs.Whole.{InUnit}
+use Rattle.clock.specs.declared.block.Block.{Block}
+use Rattle.settings.specs.declared.record.Settings.{Settings}
+use Rattle.settings.specs.declared.record.Transport.{Transport}
+use Rattle.reach.specs.Bounds.{AnchorIn, BlockIn, SettingsIn, TransportIn}
+use Rattle.reach.proofs.Frame as frame
+use Rattle.voice.specs.declared.Voice.{Voice}
+use Rattle.voice.specs.Curve.{Curve}
+use Rattle.voice.specs.Generate.{countAt, placeOf}
+use Rattle.bank.specs.Render.{voiceAfter}
+use Rattle.bank.specs.Parts.{begun, restarted}
+use Rattle.slot.specs.declared.Slot.{Slot}
+use Rattle.slot.specs.Slot.{SlotIn, slotCurve, slotPrepared}
+use Rattle.slot.proofs.Anchors.{after-in, begun-in-block, restarted-in-block}
+
+module _ (slot : Slot) (t : Transport) (f frames : ℕ)
+    (i : SlotIn f slot) (I : SettingsIn (slot .lfo .settings)) (J : TransportIn t) (short : frames ≤ 4096) (within : f + frames ≤ 2 ^ 40) where
+  abbrev s : Settings
+  s = slot .lfo .settings
+
+  abbrev q : Curve
+  q = slotCurve (s .kind) (slot .lfo)
+
+  abbrev b : Block
+  b = slotPrepared slot t frames .block
+
+  block-in : BlockIn b
+  block-in = frame.block-in s (slot .lfo .clock) t f frames 0 I J (i .clock-in) short within (omega arith)
+
+  -- frame `from + j` of a stretch of v that starts at sample `from`
+  abbrev pub Placed : (from j : ℕ) (v : Voice) → Type 0
+  Placed from j v = InUnit (placeOf (s .mode) (s .direction) (q .from) (countAt (s .mode) b (voiceAfter (s .kind) (s .mode) (s .direction) q b from j v .anchor) (from + j)))
+
+  placed : (from j : ℕ) (v : Voice) → AnchorIn (f + from) (v .anchor) → from + j ≤ frames → Placed from j v
+  unfolding placeOf countAt
+  placed from j v a h =
+      frame.frame-narrowed s (slot .lfo .clock) t f frames (from + j) I J (i .clock-in) short within h (s .mode) (voiceAfter (s .kind) (s .mode) (s .direction) q b from j v .anchor) (after-in s q b block-in f from j v a) (s .direction) (q .from) (i .loop-in (s .kind))
+
+  -- before the restart, if any
+  pub first-placed : (j : ℕ) → j ≤ frames → Placed 0 j (begun s q b frames (slot .voice))
+  first-placed j h = placed 0 j (begun s q b frames (slot .voice)) (begun-in-block s q b block-in f frames (slot .voice) (i .anchor-in) (omega arith)) (omega arith)
+
+  -- and from it on
+  pub later-placed : (at j : ℕ) → min at frames + j ≤ frames → Placed (min at frames) j (restarted s q b frames (slot .voice) (min at frames))
+  later-placed at j h =
+      placed (min at frames) j (restarted s q b frames (slot .voice) (min at frames))
+      (restarted-in-block s q b block-in f frames (slot .voice) (min at frames) (min-le-right at frames) short within (i .anchor-in)) h
