@@ -3,6 +3,8 @@ use Prim.Native.Nat.{ℕ, _+_, _^_, _≤_, min}
 use native.Mathlib.Nat.{min-le-right}
 use native.Mathlib.Omega.{arith}
 use Rattle.floatlaws.specs.Whole.{InUnit}
+use Rattle.position.specs.Position.{positionOf}
+use Rattle.clock.specs.declared.anchor.Anchor.{Anchor}
 use Rattle.clock.specs.declared.block.Block.{Block}
 use Rattle.settings.specs.declared.record.Settings.{Settings}
 use Rattle.settings.specs.declared.record.Transport.{Transport}
@@ -31,14 +33,22 @@ module _ (slot : Slot) (t : Transport) (f frames : ℕ)
   block-in : BlockIn b
   block-in = frame.block-in s (slot .lfo .clock) t f frames 0 I J (i .clock-in) short within (omega arith)
 
-  -- frame `from + j` of a stretch of v that starts at sample `from`
+  abbrev anchor : (from j : ℕ) (v : Voice) → Anchor
+  anchor from j v = voiceAfter (s .kind) (s .mode) (s .direction) q b from j v .anchor
+
+  -- frame `from + j` of a stretch of v that starts at sample `from`: its position, and that as an f32
   abbrev pub Placed : (from j : ℕ) (v : Voice) → Type 0
-  Placed from j v = InUnit (placeOf (s .mode) (s .direction) (q .from) (countAt (s .mode) b (voiceAfter (s .kind) (s .mode) (s .direction) q b from j v .anchor) (from + j)))
+  Placed from j v =
+      let c = countAt (s .mode) b (anchor from j v) (from + j) in
+      InUnit (positionOf (s .mode) (s .direction) c (q .from)) × InUnit (placeOf (s .mode) (s .direction) (q .from) c)
 
   placed : (from j : ℕ) (v : Voice) → AnchorIn (f + from) (v .anchor) → from + j ≤ frames → Placed from j v
   unfolding placeOf countAt
   placed from j v a h =
-      frame.frame-narrowed s (slot .lfo .clock) t f frames (from + j) I J (i .clock-in) short within h (s .mode) (voiceAfter (s .kind) (s .mode) (s .direction) q b from j v .anchor) (after-in s q b block-in f from j v a) (s .direction) (q .from) (i .loop-in (s .kind))
+      let within-frames = after-in s q b block-in f from j v a in (
+        frame.frame-in s (slot .lfo .clock) t f frames (from + j) I J (i .clock-in) short within h (s .mode) (anchor from j v) within-frames (s .direction) (q .from) (i .loop-in (s .kind)),
+        frame.frame-narrowed s (slot .lfo .clock) t f frames (from + j) I J (i .clock-in) short within h (s .mode) (anchor from j v) within-frames (s .direction) (q .from) (i .loop-in (s .kind)),
+      )
 
   -- before the restart, if any
   pub first-placed : (j : ℕ) → j ≤ frames → Placed 0 j (begun s q b frames (slot .voice))
