@@ -282,8 +282,7 @@ pub fn generate<'a>(
     from: LoopPoint,
     c: f64,
 ) -> Generated
-    requires { ⌜ Searchable kind (curveBy (now xs) (now ys) (now es) (now steps) n (now times) closed from) ⌝ }
-    requires { ⌜ KeptFor kind (curveBy (now xs) (now ys) (now es) (now steps) n (now times) closed from) kept ⌝ }
+    requires { ⌜ Searchable kind (curveBy (now xs) (now ys) (now es) (now steps) n (now times) closed from) × KeptFor kind (curveBy (now xs) (now ys) (now es) (now steps) n (now times) closed from) kept ⌝ }
     ensures { λ r. ⌜ Generates kind mode direction (curveBy (now (xs .entry)) (now (ys .entry)) (now (es .entry)) (now (steps .entry)) n (now (times .entry)) closed from) block s c r ⌝ }
 {
     match kind {
