@@ -152,7 +152,8 @@ module _ (p : Player) (v : Valid p) (points : List PathPointCodes) (count closed
   abbrev byPath : Path → Player
   byPath s = let l = p .slot .lfo in edited p (l .settings) (l .shape) s (l .buses)
 
-  pub path-set : a ≡ 0 → (s : Path) → s ≡ travelled → (r : Player) → r ≡ byPath s → Changes p (path points count closed legs) (record { answer = a; player = r })
+  pub path-set : a ≡ 0 → (s : Path) → s ≡ travelled → (r : Player) → r ≡ byPath s
+      → Changes p (path points count closed legs) (record { answer = a; player = r })
   path-set e s is r made =
       let i = v .lfo-in in
       rw (made, is)
@@ -188,7 +189,8 @@ module _ (p : Player) (v : Valid p) (k : ℕ) (value : Float) (a : ℕ) (asked :
     abbrev byBuses : List Float → Player
     byBuses s = let l = p .slot .lfo in edited p (l .settings) (l .shape) (l .path) s
 
-    pub bus-set : eq (getD buses k nan) value ≡ false → (r : Player) → r ≡ byBuses (set buses k value) → Changes p (bus k value) (record { answer = a; player = r })
+    pub bus-set : eq (getD buses k nan) value ≡ false → (r : Player) → r ≡ byBuses (set buses k value)
+        → Changes p (bus k value) (record { answer = a; player = r })
     bus-set other r made =
         let i = v .lfo-in in
         rw made
