@@ -3,25 +3,39 @@
 //!
 //!     cargo run --release --offline -- compare all
 //!     cargo run --release --offline -- compare floats 100000000 7
+//!     cargo run --release --offline -- compare runs 1000000 7 300000000
 //!     cargo run --release --offline -- vectors chaos
 //!
 //! Only a release build compares: Rust leaves open which zero `max` gives for −0 and 0, and a debug build gives another one than a release
 //! build. Ours gives 0 (document 01).
 include!(concat!(env!("OUT_DIR"), "/source.rs"));
 
+mod adverse;
 mod choices;
 mod clock;
 mod curves;
+mod drawn;
 mod ffi;
+mod figures;
 mod floats;
 mod generators;
 mod numbers;
+mod player;
 mod position;
+mod questions;
+mod reading;
+mod reference;
+mod refused;
+mod run;
+mod runs;
 mod simd;
+mod spoiled;
+mod stored;
 mod tally;
 mod values;
 mod vectors;
 
+use runs::Wanted;
 use std::time::Instant;
 use tally::Tally;
 use values::Values;
@@ -40,8 +54,14 @@ const SUBJECTS: [(&str, Compare, u64); 7] = [
 ];
 
 const USAGE: &str = "usage: harness vectors chaos|curves
+       harness vectors runs [without-phase]
        harness compare SUBJECT|all [COUNT] [SEED]
-SUBJECT is floats, generators, curves, choices, position, clock or numbers; COUNT the least number of values of each.";
+       harness compare runs [COUNT] [SEED] [FRAMES] [without-phase]
+SUBJECT is floats, generators, curves, choices, position, clock or numbers; COUNT the least number of values of each.
+Of runs, COUNT is the least number of runs and FRAMES of frames; run i has the seed SEED + i.";
+
+/// The runs of a short comparison.
+const RUNS: u64 = 100_000;
 
 fn number(word: &str) -> u64 {
     word.replace('_', "").parse().unwrap_or_else(|_| usage())
@@ -72,6 +92,9 @@ fn compare(subject: &str, count: Option<u64>, seed: u64) -> bool {
     if compared == 0 {
         usage();
     }
+    if subject == "all" && ffi::ORACLE.is_some() {
+        right &= runs(&[], true);
+    }
     println!(
         "{compared} values compared: {}",
         if right {
@@ -81,6 +104,25 @@ fn compare(subject: &str, count: Option<u64>, seed: u64) -> bool {
         }
     );
     right
+}
+
+/// Compares whole runs, with phase reads or without: COUNT, SEED, FRAMES.
+fn runs(words: &[&str], phase: bool) -> bool {
+    if cfg!(debug_assertions) {
+        eprintln!("build with --release");
+        return false;
+    }
+    if words.len() > 3 {
+        usage();
+    }
+    let word = |i: usize, other: u64| words.get(i).map_or(other, |w| number(w));
+    let wanted = Wanted {
+        runs: word(0, RUNS),
+        seed: word(1, 1),
+        frames: word(2, 0),
+        phase,
+    };
+    runs::compare(ffi::ORACLE, &wanted)
 }
 
 fn main() {
@@ -95,6 +137,16 @@ fn main() {
             vectors::curves();
             true
         }
+        ["vectors", "runs"] => {
+            stored::runs(true);
+            true
+        }
+        ["vectors", "runs", "without-phase"] => {
+            stored::runs(false);
+            true
+        }
+        ["compare", "runs", ref rest @ .., "without-phase"] => runs(rest, false),
+        ["compare", "runs", ref rest @ ..] => runs(rest, true),
         ["compare", subject] => compare(subject, None, 1),
         ["compare", subject, count] => compare(subject, Some(number(count)), 1),
         ["compare", subject, count, seed] => compare(subject, Some(number(count)), number(seed)),
