@@ -1,9 +1,9 @@
 //! Adverse runs, the same for the same seed: mostly accepted calls at and about every limit, with edits between any two, and now and then a call
 //! that some question refuses (refused.rs) or bytes that are no run (spoiled.rs).
 use crate::lfo::{self, Lfo, Transport};
-use crate::player::{bits, settings_of};
+use crate::player::{bits, settings_of, times};
 use crate::questions;
-use crate::run::{self, Block, Call, Present, Rate, Run, Scale, Settings, Span};
+use crate::run::{Block, Call, Present, Run, Settings, settings_bits, transport_bits};
 use crate::values::{FEELS, KINDS, Values};
 use crate::{refused, spoiled};
 
@@ -27,61 +27,6 @@ pub struct Adverse {
     transport: Transport,
     calls: Vec<Call>,
     smooths: Vec<f32>,
-}
-
-fn bits64(x: f64) -> u64 {
-    x.to_bits()
-}
-
-pub fn transport_bits(t: &Transport) -> run::Transport {
-    run::Transport {
-        sample_rate: bits64(t.sample_rate),
-        tempo: bits64(t.tempo),
-        beats_per_bar: bits64(t.beats_per_bar),
-        playing: t.playing.into(),
-        beats: bits64(t.beats),
-        seconds: bits64(t.seconds),
-        swing: bits(t.swing),
-        scale: match t.scale {
-            lfo::Scale::Percent(p) => Scale::Percent(bits(p)),
-            lfo::Scale::Rate(p) => Scale::Rate(bits(p)),
-        },
-    }
-}
-
-fn span_bits(s: lfo::Span) -> Span {
-    match s {
-        lfo::Span::Off => Span::Off,
-        lfo::Span::Synced(d) => Span::Synced(d.index().into()),
-        lfo::Span::Seconds(s) => Span::Seconds(bits(s)),
-    }
-}
-
-/// Settings with no coefficient.
-pub fn settings_bits(s: &lfo::Settings) -> Settings {
-    Settings {
-        kind: s.kind as u64,
-        mode: s.mode as u64,
-        direction: s.direction as u64,
-        rate: match s.rate {
-            lfo::Rate::Synced { division, feel } => Rate::Synced {
-                division: division.index().into(),
-                feel: feel as u64,
-            },
-            lfo::Rate::Hz { hz, x10 } => Rate::Hz {
-                hz: bits(hz),
-                x10: x10.into(),
-            },
-        },
-        song_lock: s.song_lock.into(),
-        swing: s.swing.into(),
-        fade_in: span_bits(s.fade_in),
-        delay: span_bits(s.delay),
-        smooth: Present::No,
-        phase: bits(s.phase),
-        phase_snap: s.phase_snap.into(),
-        grid_x: s.grid_x,
-    }
 }
 
 /// The coefficient that the source computes for the increment of these settings.
@@ -328,12 +273,13 @@ impl Adverse {
             }
             6 => {
                 let shape = self.shape();
-                let x = self.place(shape.points.iter().map(|p| p.x));
+                let xs: Vec<f32> = shape.points.iter().map(|p| f32::from_bits(p.x)).collect();
+                let x = self.place(&xs);
                 Call::ShapeAt { shape, x }
             }
             _ => {
                 let path = self.path();
-                let t = self.place(path.legs.iter().copied());
+                let t = self.place(&times(&path.legs));
                 Call::PathAt { path, t }
             }
         };
@@ -358,14 +304,29 @@ impl Adverse {
             let (call, smooth) = self.call(tag);
             self.push(call, smooth);
         }
-        if self.v.one_in(10) {
-            // a refused call of the same kind, before the accepted one
-            let (mut call, smooth) = (self.calls[self.calls.len() - 1].clone(), 0.0);
-            refused::refuse(&mut self.v, &mut call);
-            let at = self.calls.len() - 1;
-            self.calls.insert(at, call);
-            self.smooths.insert(at, smooth);
-        }
+    }
+
+    // A call of its own that is refused: were anything of it kept, the next block would show it.
+    fn refused(&mut self, phase: bool) {
+        let tag = match self.v.below(10) {
+            4 if !phase => 0,
+            8 | 9 => 5,
+            tag => tag as usize,
+        };
+        let mut call = if tag == 5 {
+            let frames = self.v.below(40);
+            Call::Block(Block {
+                transport: transport_bits(&self.transport()),
+                frames,
+                restart: self.restart(frames),
+                x_len: frames,
+                y_len: frames + self.v.below(3),
+            })
+        } else {
+            self.call(tag).0
+        };
+        refused::refuse(&mut self.v, &mut call);
+        self.push(call, 0.0);
     }
 }
 
@@ -376,6 +337,9 @@ pub fn made(seed: u64, phase: bool) -> Made {
     (a.settings, a.smooth) = (settings, smooth);
     for _ in 0..3 + a.v.below(16) {
         a.next(phase);
+        if a.v.one_in(8) {
+            a.refused(phase);
+        }
     }
     if a.v.one_in(40) {
         settings = refused::make(&mut a.v, settings);

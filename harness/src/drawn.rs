@@ -135,12 +135,12 @@ impl Adverse {
         }
     }
 
-    pub fn place(&mut self, xs: impl Iterator<Item = u32>) -> u32 {
-        let xs: Vec<f32> = xs.map(f32::from_bits).collect();
+    /// Where a curve is evaluated: at or next to the x of a point, at the ends, past them, within.
+    pub fn place(&mut self, xs: &[f32]) -> u32 {
         let any = self.v.finite_f32();
         let x = match self.v.below(8) {
             0..3 if !xs.is_empty() => {
-                let x = self.v.of(&xs);
+                let x = self.v.of(xs);
                 self.v.of(&[x, x.next_up(), x.next_down()])
             }
             3 => self

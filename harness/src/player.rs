@@ -162,8 +162,8 @@ pub fn legs(points: &[PathPoint], closed: bool) -> Vec<f32> {
         .collect()
 }
 
-// Running sums of the legs over their total; with total 0, j / segments.
-fn times(legs: &[u32]) -> Vec<f32> {
+/// Running sums of the legs over their total; with total 0, j / segments.
+pub fn times(legs: &[u32]) -> Vec<f32> {
     let mut sums = vec![0.0f32];
     for leg in legs {
         sums.push(sums[sums.len() - 1] + f32::from_bits(*leg));

@@ -1,5 +1,6 @@
 //! A run as docs/RUN.md has it: making a player, then calls. A code is any number and a float is its bits, so that every field can hold what
 //! no player accepts.
+use crate::lfo;
 
 /// 0, or 1 and then the value; any other number is an unknown code.
 #[derive(Clone, Copy, Debug, PartialEq)]
@@ -288,5 +289,58 @@ pub fn bytes_of(numbers: &[u64]) -> Vec<u8> {
 impl Run {
     pub fn bytes(&self) -> Vec<u8> {
         bytes_of(&Numbers::run(self).0)
+    }
+}
+
+// ---- from the source's types
+
+pub fn transport_bits(t: &lfo::Transport) -> Transport {
+    Transport {
+        sample_rate: f64::to_bits(t.sample_rate),
+        tempo: f64::to_bits(t.tempo),
+        beats_per_bar: f64::to_bits(t.beats_per_bar),
+        playing: t.playing.into(),
+        beats: f64::to_bits(t.beats),
+        seconds: f64::to_bits(t.seconds),
+        swing: f32::to_bits(t.swing),
+        scale: match t.scale {
+            lfo::Scale::Percent(p) => Scale::Percent(f32::to_bits(p)),
+            lfo::Scale::Rate(p) => Scale::Rate(f32::to_bits(p)),
+        },
+    }
+}
+
+fn span_bits(s: lfo::Span) -> Span {
+    match s {
+        lfo::Span::Off => Span::Off,
+        lfo::Span::Synced(d) => Span::Synced(d.index().into()),
+        lfo::Span::Seconds(s) => Span::Seconds(f32::to_bits(s)),
+    }
+}
+
+/// Settings with no coefficient.
+pub fn settings_bits(s: &lfo::Settings) -> Settings {
+    Settings {
+        kind: s.kind as u64,
+        mode: s.mode as u64,
+        direction: s.direction as u64,
+        rate: match s.rate {
+            lfo::Rate::Synced { division, feel } => Rate::Synced {
+                division: division.index().into(),
+                feel: feel as u64,
+            },
+            lfo::Rate::Hz { hz, x10 } => Rate::Hz {
+                hz: f32::to_bits(hz),
+                x10: x10.into(),
+            },
+        },
+        song_lock: s.song_lock.into(),
+        swing: s.swing.into(),
+        fade_in: span_bits(s.fade_in),
+        delay: span_bits(s.delay),
+        smooth: Present::No,
+        phase: f32::to_bits(s.phase),
+        phase_snap: s.phase_snap.into(),
+        grid_x: s.grid_x,
     }
 }
