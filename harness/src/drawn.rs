@@ -56,7 +56,8 @@ impl Adverse {
         let mut points = vec![];
         for _ in 0..self.points() {
             let (x, y) = (self.coordinate(&xs), self.coordinate(&ys));
-            (xs.push(x), ys.push(y));
+            xs.push(x);
+            ys.push(y);
             let bend = self.v.about(1.0);
             let curve = self.v.of(&[0.0, bend, -bend, 1.0, -1.0]);
             points.push(Point {
@@ -106,7 +107,8 @@ impl Adverse {
         let mut points = vec![];
         for _ in 0..self.points() {
             let (x, y) = (self.coordinate(&xs), self.coordinate(&ys));
-            (xs.push(x), ys.push(y));
+            xs.push(x);
+            ys.push(y);
             let bend = self.v.about(1.0);
             points.push(run::PathPoint {
                 x: bits(x),

@@ -34,6 +34,7 @@ mod stored;
 mod tally;
 mod values;
 mod vectors;
+mod written;
 
 use runs::Wanted;
 use std::time::Instant;

@@ -99,7 +99,7 @@ fn whole(oracle: Oracle, bytes: &[u8], played: &Played) -> Vec<u8> {
     out
 }
 
-fn hex(bytes: &[u8]) -> String {
+pub fn hex(bytes: &[u8]) -> String {
     bytes.iter().map(|b| format!("{b:02x}")).collect()
 }
 
@@ -194,13 +194,13 @@ impl Comparison {
             && out[written..].iter().all(|b| *b == fill);
         if !same {
             self.differed += 1;
-            if whole(oracle, &made.bytes, &played) == played.out {
+            if whole(oracle, &made.bytes, &played) != played.out {
+                self.show_difference(seed, &made, &played, oracle);
+            } else if self.differed - self.known <= 10 {
                 println!(
                     "runs differ, seed {seed}: `out` of {out_len} bytes, wrote {n}, by RUN.md {written}; bytes {}",
                     hex(&made.bytes)
                 );
-            } else {
-                self.show_difference(seed, &made, &played, oracle);
             }
         }
     }
