@@ -28,6 +28,7 @@ mod reference;
 mod refused;
 mod run;
 mod runs;
+mod shrunk;
 mod simd;
 mod spoiled;
 mod stored;
@@ -56,9 +57,11 @@ const SUBJECTS: [(&str, Compare, u64); 7] = [
 
 const USAGE: &str = "usage: harness vectors chaos|curves
        harness vectors runs [without-phase]
+       harness show BYTES
        harness compare SUBJECT|all [COUNT] [SEED]
        harness compare runs [COUNT] [SEED] [FRAMES] [without-phase]
 SUBJECT is floats, generators, curves, choices, position, clock or numbers; COUNT the least number of values of each.
+BYTES are those of a run, in hexadecimal.
 Of runs, COUNT is the least number of runs and FRAMES of frames; run i has the seed SEED + i.";
 
 /// The runs of a short comparison.
@@ -144,6 +147,11 @@ fn main() {
         }
         ["vectors", "runs", "without-phase"] => {
             stored::runs(false);
+            true
+        }
+        ["show", hex] => {
+            let bytes = shrunk::unhex(hex).unwrap_or_else(|| usage());
+            shrunk::show(&bytes, ffi::ORACLE);
             true
         }
         ["compare", "runs", ref rest @ .., "without-phase"] => runs(rest, false),

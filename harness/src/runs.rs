@@ -4,6 +4,7 @@ use crate::adverse::{Made, made};
 use crate::figures::{CALLS, Figures};
 use crate::reference::{Entry, Played, play, play_run};
 use crate::run::Run;
+use crate::shrunk::{show_run, shrunk};
 use crate::tally::ZERO_OF_MAX;
 use crate::values::Values;
 use std::time::Instant;
@@ -27,8 +28,8 @@ struct Comparison {
     known: u64,
 }
 
-// Numbers as they stand in bytes; what is cut short is left out.
-fn numbers(bytes: &[u8]) -> Vec<u64> {
+/// Numbers as they stand in bytes.
+pub fn numbers(bytes: &[u8]) -> Vec<u64> {
     let groups = bytes.split_inclusive(|b| *b < 128);
     let value = |group: &[u8]| {
         let groups = group.iter().take(10).enumerate();
@@ -103,25 +104,12 @@ pub fn hex(bytes: &[u8]) -> String {
     bytes.iter().map(|b| format!("{b:02x}")).collect()
 }
 
-// Drops calls as long as the run still differs.
-fn shrunk(oracle: Oracle, run: &Run) -> Run {
-    let differs = |run: &Run| {
-        let bytes = run.bytes();
-        let played = play(&bytes, &[], &mut Figures::default());
-        let ours = whole(oracle, &bytes, &played);
-        ours != played.out && !is_zero_of_max(&played, &ours)
-    };
-    let mut run = run.clone();
-    let mut i = run.calls.len();
-    while i > 0 {
-        i -= 1;
-        let mut shorter = run.clone();
-        shorter.calls.remove(i);
-        if differs(&shorter) {
-            run = shorter;
-        }
-    }
-    run
+// Whether a run differs, but for the zero of `max`.
+fn differs(oracle: Oracle, run: &Run) -> bool {
+    let bytes = run.bytes();
+    let played = play(&bytes, &[], &mut Figures::default());
+    let ours = whole(oracle, &bytes, &played);
+    ours != played.out && !is_zero_of_max(&played, &ours)
 }
 
 impl Comparison {
@@ -159,15 +147,15 @@ impl Comparison {
             println!("    spoiled bytes {}", hex(&made.bytes));
             return;
         }
-        let run = shrunk(oracle, &made.run);
+        let run = shrunk(&made.run, |run| differs(oracle, run));
         let bytes = run.bytes();
         let played = play(&bytes, &[], &mut Figures::default());
         let ours = whole(oracle, &bytes, &played);
         let what = first_difference(&played, &ours);
         println!("    with {} calls: {what}", run.calls.len());
         println!("    bytes {}", hex(&bytes));
-        if run.calls.len() <= 3 {
-            println!("    {run:?}");
+        if bytes.len() <= 1000 {
+            show_run(&run);
         }
     }
 

@@ -22,6 +22,18 @@ const NONE: Present<u64> = Present::No;
 
 // ---- what is played
 
+// Document 01's sheet.
+fn sheet(list: &mut List) {
+    let s = Settings {
+        rate: hertz(250.0),
+        ..Settings::default()
+    };
+    add(
+        list,
+        Written::new(&s).at(|t| t.tempo = 120.0).block(4, NONE),
+    );
+}
+
 fn kinds(list: &mut List) {
     for kind in KINDS {
         for mode in MODES {
@@ -426,6 +438,7 @@ fn adverse(list: &mut List, phase: bool) {
 /// Writes the runs, with phase reads or without.
 pub fn runs(phase: bool) {
     let mut list = vec![];
+    sheet(&mut list);
     kinds(&mut list);
     rates(&mut list);
     spans(&mut list);
