@@ -60,12 +60,15 @@ const USAGE: &str = "usage: harness vectors chaos|curves
        harness show BYTES
        harness compare SUBJECT|all [COUNT] [SEED]
        harness compare runs [COUNT] [SEED] [FRAMES] [without-phase]
+       harness compare runs long
 SUBJECT is floats, generators, curves, choices, position, clock or numbers; COUNT the least number of values of each.
 BYTES are those of a run, in hexadecimal.
 Of runs, COUNT is the least number of runs and FRAMES of frames; run i has the seed SEED + i.";
 
 /// The runs of a short comparison.
 const RUNS: u64 = 100_000;
+/// Whether `compare all` plays runs with phase reads: to be true with the landing that brings that call.
+const PHASE: bool = false;
 
 fn number(word: &str) -> u64 {
     word.replace('_', "").parse().unwrap_or_else(|_| usage())
@@ -97,7 +100,7 @@ fn compare(subject: &str, count: Option<u64>, seed: u64) -> bool {
         usage();
     }
     if subject == "all" && ffi::ORACLE.is_some() {
-        right &= runs(&[], true);
+        right &= runs(&[], PHASE);
     }
     println!(
         "{compared} values compared: {}",
@@ -154,6 +157,7 @@ fn main() {
             shrunk::show(&bytes, ffi::ORACLE);
             true
         }
+        ["compare", "runs", "long"] => runs::compare_long(ffi::ORACLE),
         ["compare", "runs", ref rest @ .., "without-phase"] => runs(rest, false),
         ["compare", "runs", ref rest @ ..] => runs(rest, true),
         ["compare", subject] => compare(subject, None, 1),

@@ -7,6 +7,7 @@ use crate::run::Run;
 use crate::shrunk::{show_run, shrunk};
 use crate::tally::ZERO_OF_MAX;
 use crate::values::Values;
+use crate::written::long_runs;
 use std::time::Instant;
 
 /// Takes the bytes of a run and `out`, answers how many bytes it wrote.
@@ -113,6 +114,28 @@ fn differs(oracle: Oracle, run: &Run) -> bool {
 }
 
 impl Comparison {
+    fn new(oracle: Option<Oracle>) -> Self {
+        Self {
+            oracle,
+            figures: Figures::default(),
+            differed: 0,
+            known: 0,
+        }
+    }
+
+    // Says how many runs and frames were compared, and answers whether all differences are known.
+    fn right(&self, start: Instant) -> bool {
+        let seconds = start.elapsed().as_secs_f64();
+        if self.oracle.is_none() {
+            println!("crates/oracle is not linked: the reference was held to itself");
+        }
+        println!(
+            "runs       {:>11} compared, {} frames, {} differed ({} by {ZERO_OF_MAX}), {seconds:.1} s",
+            self.figures.runs, self.figures.frames, self.differed, self.known
+        );
+        self.differed == self.known && self.figures.bank_differed == 0
+    }
+
     // A length of `out`: room for all in most runs; now and then about the end of some call's bytes, or any shorter one.
     fn out_len(v: &mut Values, played: &Played) -> usize {
         let full = played.out.len();
@@ -145,6 +168,8 @@ impl Comparison {
         );
         if made.spoiled {
             println!("    spoiled bytes {}", hex(&made.bytes));
+        }
+        if made.spoiled || made.run.calls.len() > 100 {
             return;
         }
         let run = shrunk(&made.run, |run| differs(oracle, run));
@@ -159,12 +184,11 @@ impl Comparison {
         }
     }
 
-    fn run(&mut self, seed: u64, phase: bool) {
-        let made = made(seed, phase);
+    fn run(&mut self, seed: u64, made: &Made, phase: bool) {
         let played = play(&made.bytes, &made.smooths, &mut self.figures);
         self.figures.runs += 1;
         let Some(oracle) = self.oracle else {
-            self.check_reading(seed, &made, &played);
+            self.check_reading(seed, made, &played);
             return;
         };
         if !phase && played.entries.iter().any(|e| e.tag == 4) {
@@ -183,7 +207,7 @@ impl Comparison {
         if !same {
             self.differed += 1;
             if whole(oracle, &made.bytes, &played) != played.out {
-                self.show_difference(seed, &made, &played, oracle);
+                self.show_difference(seed, made, &played, oracle);
             } else if self.differed - self.known <= 10 {
                 println!(
                     "runs differ, seed {seed}: `out` of {out_len} bytes, wrote {n}, by RUN.md {written}; bytes {}",
@@ -208,25 +232,29 @@ impl Comparison {
 /// Compares runs and answers whether every difference is a known one.
 pub fn compare(oracle: Option<Oracle>, wanted: &Wanted) -> bool {
     let start = Instant::now();
-    let mut c = Comparison {
-        oracle,
-        figures: Figures::default(),
-        differed: 0,
-        known: 0,
-    };
+    let mut c = Comparison::new(oracle);
     let mut i = 0;
     while i < wanted.runs || c.figures.frames < wanted.frames {
-        c.run(wanted.seed.wrapping_add(i), wanted.phase);
+        let seed = wanted.seed.wrapping_add(i);
+        c.run(seed, &made(seed, wanted.phase), wanted.phase);
         i += 1;
     }
-    let seconds = start.elapsed().as_secs_f64();
     c.figures.show(wanted.phase);
-    if oracle.is_none() {
-        println!("crates/oracle is not linked: the reference was held to itself");
+    c.right(start)
+}
+
+/// Compares the long runs (written.rs).
+pub fn compare_long(oracle: Option<Oracle>) -> bool {
+    let start = Instant::now();
+    let mut c = Comparison::new(oracle);
+    for (i, run) in long_runs().into_iter().enumerate() {
+        let made = Made {
+            bytes: run.bytes(),
+            run,
+            smooths: vec![],
+            spoiled: false,
+        };
+        c.run(i as u64, &made, false);
     }
-    println!(
-        "runs       {:>11} compared, {} frames, {} differed ({} by {ZERO_OF_MAX}), {seconds:.1} s",
-        c.figures.runs, c.figures.frames, c.differed, c.known
-    );
-    c.differed == c.known && c.figures.bank_differed == 0
+    c.right(start)
 }

@@ -1,9 +1,10 @@
 //! Runs written by hand, call by call, and the curves that they set.
-use crate::lfo::{Division, Feel, LfoType, Mode, PathPoint, Rate, Settings, Transport};
+use crate::lfo::{Division, Feel, LfoType, Mode, PathPoint, Rate, Settings, Span, Transport};
 use crate::player::{bits, legs, strength};
 use crate::run::{
     self, Block, Call, Mod, Path, Point, Present, Run, Shape, settings_bits, transport_bits,
 };
+use crate::values::MODES;
 
 /// A run that is being written, with the transport of its next block.
 #[derive(Clone)]
@@ -145,4 +146,25 @@ impl Written {
         self.transport.advance(frames as usize);
         self.with(Call::Block(block))
     }
+}
+
+/// Runs of so many frames that the samples since the delay, of which an f32 is made, need more than 24 bits.
+pub fn long_runs() -> Vec<Run> {
+    let kinds = [LfoType::Drawn, LfoType::Path, LfoType::SampleAndHold];
+    let long = |(i, kind): (usize, LfoType)| {
+        let s = Settings {
+            rate: hertz([0.5, 0.3, 200.0][i]),
+            fade_in: Span::Seconds(32.0),
+            delay: Span::Seconds([0.0, 0.001, 0.5][i]),
+            ..eighth(kind, MODES[i])
+        };
+        let mut w = Written::new(&s).at(|t| t.sample_rate = 768_000.0);
+        w = w.with(Call::Shape(bent()));
+        w = w.block(4096, Present::Yes(17 * i as u64));
+        for _ in 0..4300 {
+            w = w.block(4096, Present::No);
+        }
+        w.run
+    };
+    kinds.into_iter().enumerate().map(long).collect()
 }
