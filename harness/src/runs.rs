@@ -101,6 +101,11 @@ fn whole(oracle: Oracle, bytes: &[u8], played: &Played) -> Vec<u8> {
     out
 }
 
+fn has_phase(bytes: &[u8]) -> bool {
+    let played = play(bytes, &[], &mut Figures::default());
+    played.entries.iter().any(|e| e.tag == 4)
+}
+
 pub fn hex(bytes: &[u8]) -> String {
     bytes.iter().map(|b| format!("{b:02x}")).collect()
 }
@@ -185,15 +190,16 @@ impl Comparison {
     }
 
     fn run(&mut self, seed: u64, made: &Made, phase: bool) {
+        // spoiled bytes can read as a phase read
+        if !phase && made.spoiled && has_phase(&made.bytes) {
+            return;
+        }
         let played = play(&made.bytes, &made.smooths, &mut self.figures);
         self.figures.runs += 1;
         let Some(oracle) = self.oracle else {
             self.check_reading(seed, made, &played);
             return;
         };
-        if !phase && played.entries.iter().any(|e| e.tag == 4) {
-            return; // spoiled bytes can read as a phase read
-        }
         let mut v = Values::new(!seed);
         let out_len = Self::out_len(&mut v, &played);
         let written = played.fits(out_len);
