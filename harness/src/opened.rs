@@ -183,6 +183,9 @@ impl Lfo {
 }
 
 // ---- a block with supplied numbers
+//
+// The source computes the coefficient in `prepare`, a strength where a segment is found, and keeps the times of a path private to shape.rs. So
+// the block's coefficient is set, a segment found takes the supplied strength, and a path's segment is found by the supplied times here.
 
 // A path's segment at t by the times that the supplied legs give. What holds a value does not depend on them; of the others, the source gives
 // the coefficients, by a path of the segment's two points.
