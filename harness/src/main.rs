@@ -79,10 +79,16 @@ fn usage() -> ! {
     std::process::exit(2)
 }
 
-/// Compares a subject, or all, and answers whether every difference is a known one.
-fn compare(subject: &str, count: Option<u64>, seed: u64) -> bool {
+fn is_release() -> bool {
     if cfg!(debug_assertions) {
         eprintln!("build with --release");
+    }
+    !cfg!(debug_assertions)
+}
+
+/// Compares a subject, or all, and answers whether every difference is a known one.
+fn compare(subject: &str, count: Option<u64>, seed: u64) -> bool {
+    if !is_release() {
         return false;
     }
     let mut right = true;
@@ -115,8 +121,7 @@ fn compare(subject: &str, count: Option<u64>, seed: u64) -> bool {
 
 /// Compares whole runs, with phase reads or without: COUNT, SEED, FRAMES.
 fn runs(words: &[&str], phase: bool) -> bool {
-    if cfg!(debug_assertions) {
-        eprintln!("build with --release");
+    if !is_release() {
         return false;
     }
     if words.len() > 3 {
@@ -132,6 +137,14 @@ fn runs(words: &[&str], phase: bool) -> bool {
     runs::compare(ffi::ORACLE, &wanted)
 }
 
+fn stored_runs(phase: bool) -> bool {
+    let release = is_release();
+    if release {
+        stored::runs(phase);
+    }
+    release
+}
+
 fn main() {
     let words: Vec<String> = std::env::args().skip(1).collect();
     let words: Vec<&str> = words.iter().map(String::as_str).collect();
@@ -144,14 +157,8 @@ fn main() {
             vectors::curves();
             true
         }
-        ["vectors", "runs"] => {
-            stored::runs(true);
-            true
-        }
-        ["vectors", "runs", "without-phase"] => {
-            stored::runs(false);
-            true
-        }
+        ["vectors", "runs"] => stored_runs(true),
+        ["vectors", "runs", "without-phase"] => stored_runs(false),
         ["show", hex] => {
             let bytes = shrunk::unhex(hex).unwrap_or_else(|| usage());
             shrunk::show(&bytes, ffi::ORACLE);

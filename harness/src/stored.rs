@@ -437,7 +437,6 @@ fn adverse(list: &mut List, phase: bool) {
 
 /// Writes the runs, with phase reads or without.
 pub fn runs(phase: bool) {
-    assert!(!cfg!(debug_assertions), "build with --release");
     let mut list = vec![];
     sheet(&mut list);
     kinds(&mut list);
