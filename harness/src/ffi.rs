@@ -26,6 +26,7 @@ macro_rules! on_slices {
             }
         }
         $(
+            #[allow(clippy::too_many_arguments)]
             pub fn $name($($slice: &[$item],)* $($arg: $type),*) -> $result {
                 unsafe { slices::$name($($slice.as_ptr(), $slice.len(),)* $($arg),*) }
             }
