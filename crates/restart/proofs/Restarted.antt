@@ -50,7 +50,7 @@ span-same d b b′ e = rw (same (clampedSpan d)) refl
 
 -- what the first draw needs of a restart's block: a Phase that is small, if it is a number, and a small increment
 abbrev pub Starts : Block → Type 0
-Starts b = ((b .phase ≡ nan) ⊎ Size (b .phase) 1) × Size (b .inc) 1
+Starts b = ((b .phase ≡ nan) ⊎ Size (b .phase) 2) × Size (b .inc) 1
 
 module _ (s : Settings) (b b′ : Block) (m : Restarts (s .mode)) (l : b .«song_lock» ≡ SongLock.None) (l′ : b′ .«song_lock» ≡ SongLock.None)
     (e : constantsOf b ≡ constantsOf b′) (i : Starts b′) (v w : Voice) (mv : v .«made_for» ≡ w .«made_for»)
@@ -67,7 +67,7 @@ module _ (s : Settings) (b b′ : Block) (m : Restarts (s .mode)) (l : b .«song
         step = i .1;
       }
     where
-      near : (b′ .phase ≡ nan) ⊎ Size (b′ .phase) 1 → (b′ .phase ≡ nan) ⊎ Size (b′ .phase) (2 ^ 45 + (2 ^ 40 - 0))
+      near : (b′ .phase ≡ nan) ⊎ Size (b′ .phase) 2 → (b′ .phase ≡ nan) ⊎ Size (b′ .phase) (2 ^ 45 + (2 ^ 40 - 0))
       near (inl z) = inl z
       near (inr z) = inr (size-more (lit≤ tt) z)
 
