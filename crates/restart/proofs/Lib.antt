@@ -9,6 +9,7 @@ pub mod Accepted
 pub mod Settled
 pub mod Snapped
 pub mod Ready
+pub mod Kept
 pub mod Steps
 pub mod Reach
 pub mod Cuts

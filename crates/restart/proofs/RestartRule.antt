@@ -27,15 +27,12 @@ use Rattle.restart.proofs.Restarted.{triggered-alike}
 use Rattle.restart.proofs.Accepted.{Passes, accepted-block}
 use Rattle.restart.proofs.Ready.{starts, swing-fits}
 use Rattle.restart.proofs.Steps.{valueOf, Has}
-use Rattle.restart.proofs.Reach.{Good, good-made, good-after}
+use Rattle.restart.proofs.Reach.{Good, good-made, good-after, same-curve}
 use Rattle.restart.proofs.Cuts.{head, Standing, standing, ahead}
 use Rattle.restart.proofs.From.{like, free, from-plays, start-is, word-is}
 
-same-curve : (p q : State) → Equal p q → slotCurve (p .lfo .settings .kind) (q .lfo) ≡ slotCurve (p .lfo .settings .kind) (p .lfo)
-same-curve p q e = rw (e .shape, e .path, e .buses) refl
-
 module _ (p₁ p₂ : State) (calls₁ calls₂ : List Call) (r₁ : RestartIn p₁ calls₁) (r₂ : RestartIn p₂ calls₂) (rate : Rate)
-    (g : Good (stateAt p₁ calls₁ r₁)) (hyp : Hypotheses p₁ p₂ calls₁ calls₂ r₁ r₂ rate) where
+    (g₁ : Good (stateAt p₁ calls₁ r₁)) (g₂ : Good (stateAt p₂ calls₂ r₂)) (hyp : Hypotheses p₁ p₂ calls₁ calls₂ r₁ r₂ rate) where
   abbrev P₁ : State
   P₁ = stateAt p₁ calls₁ r₁
 
@@ -53,7 +50,7 @@ module _ (p₁ p₂ : State) (calls₁ calls₂ : List Call) (r₁ : RestartIn p
   has₁ = record { settings = refl; curve = refl }
 
   has₂ : Has s q P₂
-  has₂ = record { settings = sym (hyp .equal .settings); curve = same-curve P₁ P₂ (hyp .equal) }
+  has₂ = record { settings = sym (hyp .equal .settings); curve = sym (same-curve (s .kind) P₁ P₂ g₁ g₂ (hyp .equal)) }
 
   gets₂ : Every (Gets s rate) (throughout p₂ calls₂ r₂)
   gets₂ = subst (λ (z : Settings). Every (Gets z rate) (throughout p₂ calls₂ r₂)) (sym (hyp .equal .settings)) (hyp .gets₂)
@@ -64,7 +61,7 @@ module _ (p₁ p₂ : State) (calls₁ calls₂ : List Call) (r₁ : RestartIn p
 
   module _ (B₁ : Passes (r₁ .transport)) (B₂ : Passes (r₂ .transport)) where
     S : Standing s rate
-    S = record { mode = hyp .mode; settled = g .settled; codes = r₁ .transport; passes = B₁; same = e₀ }
+    S = record { mode = hyp .mode; settled = g₁ .settled; codes = r₁ .transport; passes = B₁; same = e₀ }
 
     -- the block that stands for all blocks of the rate
     abbrev b₀ : Block
@@ -102,7 +99,7 @@ module _ (p₁ p₂ : State) (calls₁ calls₂ : List Call) (r₁ : RestartIn p
         (subst (λ (z : Voice). Alike (s .kind) (triggeredVoice s b₁ u₁) z) (sym (start-is s q rate S p₂ calls₂ r₂ B₂ has₂ gets₂))
         (triggered-alike s b₁ b₂ (hyp .mode) (free s q rate S p₁ calls₁ r₁ B₁ has₁ (hyp .gets₁)) (free s q rate S p₂ calls₂ r₂ B₂ has₂ gets₂)
         (like s q rate S p₁ calls₁ r₁ B₁ has₁ (hyp .gets₁) ∙ sym (like s q rate S p₂ calls₂ r₂ B₂ has₂ gets₂))
-        (starts s (g .settled) (P₂ .lfo .clock) (B₂ .t) (B₂ .within) (r₂ .frames)) u₁ u₂
+        (starts s (g₁ .settled) (P₂ .lfo .clock) (B₂ .t) (B₂ .within) (r₂ .frames)) u₁ u₂
         (reaches-made s q b₁ (frameAt p₁ calls₁ r₁) (P₁ .voice) ∙ sym (reaches-made s q b₂ (frameAt p₂ calls₂ r₂) (P₂ .voice))) same-word))
 
     same-value : (side : Side) (n : ℕ) → valueOf side (tone (s .kind) (s .mode) (s .direction) q b₀ (ahead s q rate S n v₁))
@@ -124,6 +121,9 @@ module _ (p₁ p₂ : State) (calls₁ calls₂ : List Call) (r₁ : RestartIn p
 
 pub restart-rule : RestartRule
 restart-rule codes₁ codes₂ seed₁ seed₂ m₁ m₂ calls₁ calls₂ r₁ r₂ rate hyp =
-    same-frames (made codes₁ seed₁) (made codes₂ seed₂) calls₁ calls₂ r₁ r₂ rate (good-after (made codes₁ seed₁) (r₁ .before) (good-made codes₁ seed₁ m₁)) hyp
+    same-frames (made codes₁ seed₁) (made codes₂ seed₂) calls₁ calls₂ r₁ r₂ rate
+    (good-after (made codes₁ seed₁) (r₁ .before) (good-made codes₁ seed₁ m₁))
+    (good-after (made codes₂ seed₂) (r₂ .before) (good-made codes₂ seed₂ m₂))
+    hyp
     (accepted-block _ (r₁ .transport) (r₁ .frames) (r₁ .restart) (r₁ .x) (r₁ .y) (r₁ .accepted))
     (accepted-block _ (r₂ .transport) (r₂ .frames) (r₂ .restart) (r₂ .x) (r₂ .y) (r₂ .accepted))

@@ -4,8 +4,10 @@ use mathlib.Core.Path.{_≡_}
 use mathlib.Core.Logic.{_⊎_}
 use mathlib.Core.Bool.{Bool, true, false, _&&_}
 use mathlib.Core.List.{List, [], _∷_, _++_}
-use lib.ListN.{length, getD, drop}
+use lib.ListN.{length, getD, take, drop}
 use lib.Ieee.{Float, nan}
+use Rattle.shape.specs.declared.Shape.{Shape}
+use Rattle.path.specs.declared.Path.{Path}
 use Rattle.settings.specs.declared.choices.LfoType.the-variants.{SampleAndHold}
 use Rattle.settings.specs.declared.choices.Mode.{Mode}
 use Rattle.settings.specs.declared.choices.Mode.the-variants.{Restart, OneShot}
@@ -80,12 +82,24 @@ module _ (from : State) (calls : List Call) (r : RestartIn from calls) where
 abbrev pub Restarts : Mode → Type 0
 Restarts mode = (mode ≡ Restart) ⊎ (mode ≡ OneShot)
 
--- "the two players have equal settings, curve, supplied numbers and stored buses": "after the clamping, keeping and sorting", "each strength at its point's place after the sorting".
--- A stored shape has its points with their strengths and its loopback, a stored path its points, whether it is closed, and the times that its legs give.
+-- "after the clamping, keeping and sorting ruled here": of a stored shape the points that are kept, each with its strength "at its point's place after the sorting"
+pub record SameShape (a b : Shape) : Type 0 where
+  pub count : a .len ≡ b .len
+  pub points : take (a .len) (a .points) ≡ take (b .len) (b .points)
+  pub loopback : a .loopback ≡ b .loopback
+
+-- and of a stored path, whose legs are there as the times that they give (`same-legs` of proofs/Kept.antt)
+pub record SamePath (a b : Path) : Type 0 where
+  pub count : a .len ≡ b .len
+  pub points : take (a .len) (a .points) ≡ take (b .len) (b .points)
+  pub closed : a .closed ≡ b .closed
+  pub times : a .times ≡ b .times
+
+-- "the two players have equal settings, curve, supplied numbers and stored buses"
 pub record Equal (p q : State) : Type 0 where
   pub settings : p .lfo .settings ≡ q .lfo .settings
-  pub shape : p .lfo .shape ≡ q .lfo .shape
-  pub path : p .lfo .path ≡ q .lfo .path
+  pub shape : SameShape (p .lfo .shape) (q .lfo .shape)
+  pub path : SamePath (p .lfo .path) (q .lfo .path)
   pub buses : p .lfo .buses ≡ q .lfo .buses
 
 -- "sample rate, tempo, bar, swing and scale"; "Nothing else of the transport need be equal"
