@@ -1,0 +1,34 @@
+-- `shape_answer` meets its contract. Assumes nothing.
+use borrow.Author.Needs.{needs}
+use borrow.Author.Tests.{ne-eqb, eq-eqb}
+use Rattle.questions.specs.Questions.{firstNo, shapeQuestions}
+use Rattle.questions.proofs.Laws.{no, yes}
+use Rattle.questions.proofs.shape_answer.Statement.{statement}
+use Rattle.questions.proofs.shape_answer.Tie as tie
+
+returns : tie.Need-returns
+unfolding firstNo shapeQuestions
+returns c = rw (no (c .before .shape-known .ensures) (c .if1 .taken))
+
+returns-2 : tie.Need-returns-2
+unfolding firstNo shapeQuestions
+returns-2 c = rw (yes (c .before .before .before .shape-known .ensures) (c .before .before .if1 .left), no (c .before .shape-finite .ensures) (c .if2 .taken))
+
+returns-3 : tie.Need-returns-3
+unfolding firstNo shapeQuestions
+returns-3 c = rw (yes (c .before .before .before .before .shape-known .ensures) (c .before .before .before .if1 .left), yes (c .before .before .shape-finite .ensures) (c .before .if2 .left), ← c .before .before .before .before .before .kept .ensures, ne-eqb _ _ (c .if3 .taken))
+
+returns-4 : tie.Need-returns-4
+unfolding firstNo shapeQuestions
+returns-4 c = rw (yes (c .before .before .before .before .before .before .shape-known .ensures) (c .before .before .before .before .before .if1 .left), yes (c .before .before .before .before .shape-finite .ensures) (c .before .before .before .if2 .left), ← c .before .before .before .before .before .before .before .kept .ensures, eq-eqb _ _ (c .before .before .if3 .left), no (c .before .loopback-below .ensures) (c .if4 .taken))
+
+returns-5 : tie.Need-returns-5
+unfolding firstNo shapeQuestions
+returns-5 c = rw (yes (c .before .before .before .before .before .before .before .before .shape-known .ensures) (c .before .before .before .before .before .before .before .if1 .left), yes (c .before .before .before .before .before .before .shape-finite .ensures) (c .before .before .before .before .before .if2 .left), ← c .before .before .before .before .before .before .before .before .before .kept .ensures, eq-eqb _ _ (c .before .before .before .before .if3 .left), yes (c .before .before .before .loopback-below .ensures) (c .before .before .if4 .left), no (c .before .between-all .ensures) (c .if5 .taken))
+
+returns-6 : tie.Need-returns-6
+unfolding firstNo shapeQuestions
+returns-6 c = rw (yes (c .before .before .before .before .before .before .before .before .shape-known .ensures) (c .before .before .before .before .before .before .before .if1 .left), yes (c .before .before .before .before .before .before .shape-finite .ensures) (c .before .before .before .before .before .if2 .left), ← c .before .before .before .before .before .before .before .before .before .kept .ensures, eq-eqb _ _ (c .before .before .before .before .if3 .left), yes (c .before .before .before .loopback-below .ensures) (c .before .before .if4 .left), yes (c .before .between-all .ensures) (c .if5 .left))
+
+pub shape-answer-spec : {M : Type 1} → statement M
+shape-answer-spec = tie.close (tie.spec (λ c κs. search needs) (λ c κs. search needs) returns (λ c κs. search needs) returns-2 returns-3 (λ c κs. search needs) returns-4 (λ c κs. search needs) returns-5 returns-6)
