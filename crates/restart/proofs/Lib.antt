@@ -1,0 +1,17 @@
+pub mod Constants
+pub mod Frames
+pub mod Draws
+pub mod Alike
+pub mod Stream
+pub mod Parts
+pub mod Restarted
+pub mod Accepted
+pub mod Settled
+pub mod Snapped
+pub mod Ready
+pub mod Kept
+pub mod Steps
+pub mod Reach
+pub mod Cuts
+pub mod From
+pub mod RestartRule
