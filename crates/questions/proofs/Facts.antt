@@ -81,7 +81,7 @@ use Rattle.questions.proofs.Laws.{and-true, three, five, seven}
 
 -- ---- the laws that the others cite
 
--- a question that is not the one that was failed was passed
+-- where no question is failed, the first is passed, and none of the rest is failed (no question has the number 0)
 pub passed : (k : ℕ) (test : Bool) (rest : List Question) → firstNo ((suc k, test) ∷ rest) ≡ 0 → (test ≡ true) × (firstNo rest ≡ 0)
 unfolding firstNo
 passed k true rest h = (refl, h)
