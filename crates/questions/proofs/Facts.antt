@@ -124,7 +124,7 @@ KnownScale (ScaleCode.Known s) = PercentNumber s
 KnownScale ScaleCode.Unknown = Unit
 
 abbrev KnownSettings : SettingsCode → Type 0
-KnownSettings (SettingsCode.Known s) = SettingsIn s
+KnownSettings (SettingsCode.Known s) = s .«grid_x» < 2 ^ 16 → SettingsIn s
 KnownSettings SettingsCode.Unknown = Unit
 
 abbrev KnownTransport : TransportCode → Type 0
@@ -183,9 +183,9 @@ rate-number c = at (c .code)
     at (suc zero) h = hz-number (c .hz) (yesNoAt (c .x10)) (yes-so h)
     at (suc (suc k)) h = tt
 
-known-settings : (c : SettingsCodes) → settingsFinite c ≡ true → c .«grid_x» < 2 ^ 16 → KnownSettings (settingsAt c)
+known-settings : (c : SettingsCodes) → settingsFinite c ≡ true → KnownSettings (settingsAt c)
 unfolding settingsFinite settingsAt withSwitches withSpans
-known-settings c h grid =
+known-settings c h =
     let all = five (rateFinite (c .rate)) (spanFinite (c .«fade_in»)) (spanFinite (c .delay)) (smoothFinite (c .smooth)) (finite (c .phase)) h in
     with-kind KnownSettings tt (lfoTypeAt (c .kind)) λ kind.
     with-mode KnownSettings tt (modeAt (c .mode)) λ mode.
@@ -196,12 +196,12 @@ known-settings c h grid =
     with-yes-no KnownSettings tt (yesNoAt (c .«phase_snap»)) λ snap.
     with-span KnownSettings tt (spanAt (c .«fade_in»)) λ fade.
     with-span KnownSettings tt (spanAt (c .delay)) λ delay.
-    with-smooth KnownSettings tt (smoothAt (c .smooth)) λ smooth.
+    with-smooth KnownSettings tt (smoothAt (c .smooth)) λ smooth grid.
     record { rate-number = number; phase-number = finite-number (c .phase) (yes-so (all .4)); grid-in = grid }
 
-pub settings-in : (c : SettingsCodes) → firstNo (settingsQuestions c) ≡ 0 → c .«grid_x» < 2 ^ 16
-    → (s : Settings) → settingsAt c ≡ SettingsCode.Known s → SettingsIn s
-settings-in c h grid s e = subst KnownSettings e (known-settings c (settings-accepted c h .finite-all) grid)
+pub settings-in : (c : SettingsCodes) → firstNo (settingsQuestions c) ≡ 0
+    → (s : Settings) → settingsAt c ≡ SettingsCode.Known s → s .«grid_x» < 2 ^ 16 → SettingsIn s
+settings-in c h s e = subst KnownSettings e (known-settings c (settings-accepted c h .finite-all))
 
 -- ---- a transport
 

@@ -15,3 +15,4 @@ pub mod Reach
 pub mod Cuts
 pub mod From
 pub mod RestartRule
+pub mod Example
