@@ -41,20 +41,20 @@ use Rattle.restart.proofs.RestartRule.{restart-rule}
 
 -- ---- what the calls are handed
 
-abbrev hertz : Float → RateCodes
+abbrev pub hertz : Float → RateCodes
 hertz hz = record { code = 1; division = 99; feel = 99; hz = hz; x10 = 0 }
 
 abbrev seconds : Float → SpanCodes
 seconds s = record { code = 2; division = 99; seconds = s }
 
-abbrev off : SpanCodes
+abbrev pub off : SpanCodes
 off = record { code = 0; division = 99; seconds = nan }
 
-abbrev unsmoothed : SmoothCodes
+abbrev pub unsmoothed : SmoothCodes
 unsmoothed = record { code = 0; coefficient = nan }
 
 -- a drawn shape in mode Restart, with song lock set, a delay and a fade
-abbrev drawn : SettingsCodes
+abbrev pub drawn : SettingsCodes
 drawn =
     record {
       kind = 0;
@@ -93,7 +93,7 @@ abbrev percent : ScaleCodes
 percent = record { code = 0; percent = f32-1 }
 
 -- one rate at two places of the song, stopped
-abbrev here : TransportCodes
+abbrev pub here : TransportCodes
 here =
     record {
       «sample_rate» = f64-1000;
@@ -106,7 +106,7 @@ here =
       scale = percent;
     }
 
-abbrev there : TransportCodes
+abbrev pub there : TransportCodes
 there =
     record {
       «sample_rate» = f64-1000;
@@ -163,13 +163,13 @@ triangle = shape (point f32-1 f32-0 ∷ point f32-0 f32-0 ∷ point f32-½ f32-1
 abbrev line : Call
 line = shape (point f32-0 f32-1 ∷ []) 1 noLoopback (f32-1 ∷ [])
 
-abbrev never : RestartCodes
+abbrev pub never : RestartCodes
 never = record { code = 0; frame = 99 }
 
-abbrev at : ℕ → RestartCodes
+abbrev pub at : ℕ → RestartCodes
 at k = record { code = 1; frame = k }
 
-abbrev room : List Float
+abbrev pub room : List Float
 room = replicate 8 nan
 
 -- ---- the two lists
@@ -198,7 +198,7 @@ rest₂ =
 abbrev calls₂ : List Call
 calls₂ = before₂ ++ (block there 0 (at 7) room room ∷ rest₂)
 
-makes-drawn : makes drawn ≡ true
+pub makes-drawn : makes drawn ≡ true
 unfolding firstNo settingsQuestions settingsKnown settingsFinite ofBits
 makes-drawn = refl
 
