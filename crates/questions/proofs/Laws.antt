@@ -41,6 +41,25 @@ pub and-true : (a b : Bool) → (a && b) ≡ true → (a ≡ true) × (b ≡ tru
 and-true true b h = (refl, h)
 and-true false b h = absurd (false≢true h)
 
+pub three : (a b c : Bool) → (a && b && c) ≡ true → (a ≡ true) × (b ≡ true) × (c ≡ true)
+three a b c h =
+    let q = and-true (a && b) c h in
+    let p = and-true a b (q .0) in
+    (p .0, p .1, q .1)
+
+pub five : (a b c d e : Bool) → (a && b && c && d && e) ≡ true → (a ≡ true) × (b ≡ true) × (c ≡ true) × (d ≡ true) × (e ≡ true)
+five a b c d e h =
+    let q = three (a && b && c) d e h in
+    let p = three a b c (q .0) in
+    (p .0, p .1, p .2, q .1, q .2)
+
+pub seven : (a b c d e f g : Bool) → (a && b && c && d && e && f && g) ≡ true
+    → (a ≡ true) × (b ≡ true) × (c ≡ true) × (d ≡ true) × (e ≡ true) × (f ≡ true) × (g ≡ true)
+seven a b c d e f g h =
+    let q = three (a && b && c && d && e) f g h in
+    let p = five a b c d e (q .0) in
+    (p .0, p .1, p .2, p .3, p .4, q .1, q .2)
+
 -- question 7 leaves few frames
 pub few : (frames a b : ℕ) {asked : Bool} → asked ≡ (leb frames 4096 && leb frames a && leb frames b) → not asked ≡ false → frames ≤ 4096
-few frames a b e h = leb-true _ _ (and-true _ _ (and-true _ _ (yes e h) .0) .0)
+few frames a b e h = leb-true _ _ (three (leb frames 4096) (leb frames a) (leb frames b) (yes e h) .0)

@@ -28,4 +28,16 @@ returns : tie.Need-returns Inv-loop μ-loop
 returns c = every-at _ (c .before .loop .inv .1) (omega arith)
 
 pub finite-all-spec : {M : Type 1} → statement M
-finite-all-spec = tie.close (tie.spec Inv-loop μ-loop loop-holds (λ c. omega arith) (λ c. omega arith) (λ c κs. search needs) (λ c. omega arith) (λ c. omega arith) loop-again returns)
+finite-all-spec =
+    tie.close
+    (tie.spec
+    Inv-loop
+    μ-loop
+    loop-holds
+    (λ c. omega arith)
+    (λ c. omega arith)
+    (λ c κs. search needs)
+    (λ c. omega arith)
+    (λ c. omega arith)
+    loop-again
+    returns)
