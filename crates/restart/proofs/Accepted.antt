@@ -1,19 +1,18 @@
 -- What an accepted call hands in: each question that was put to it has been answered yes. Assumes nothing.
 use Prim.Native.Nat.{ℕ, zero, suc, _^_}
 use mathlib.Core.Path.{_≡_, refl, sym, ap, _∙_, subst}
-use mathlib.Core.Bool.{Bool, true, false, _&&_, not, cond}
+use mathlib.Core.Bool.{Bool, true, false, _&&_}
 use mathlib.Core.List.{List, [], _∷_}
 use native.Mathlib.Omega.{arith}
-use lib.Dec.{T, eqb, ltb}
+use lib.Dec.{T, ltb}
 use lib.IntN.{pos}
-use lib.Ieee.{Float, fin, le, isNan, ofBits, neg}
+use lib.Ieee.{Float, fin, le, ofBits, neg}
 use lib.Ieee.Scale.{finite}
-use lib.ListN.{length, getD}
+use lib.ListN.{getD}
 use Rattle.floatlaws.specs.Numbers.{f64-0, f64-¼}
 use Rattle.floatlaws.proofs.NoNan.{finite-number}
 use Rattle.floatlaws.proofs.Order.{le-trans-at}
 use Rattle.floatlaws.proofs.Size.{Size, size-of-le, size-of-range}
-use Rattle.floatlaws.proofs.Tests.{yes-so}
 use Rattle.floatlaws.proofs.Unit.{zero-float}
 use Rattle.settings.specs.declared.choices.YesNo.{YesNo}
 use Rattle.settings.specs.declared.choices.YesNo.the-variants as YesNo
@@ -39,7 +38,7 @@ use Rattle.curves.specs.Given.{isYes}
 use Rattle.calls.specs.State.{State}
 use Rattle.calls.specs.Calls.{block, questions, answer}
 use Rattle.restart.specs.Rule.{rateOf}
-use Rattle.restart.proofs.Constants.{Pace, paceOf}
+use Rattle.restart.proofs.Constants.{paceOf}
 
 pub both : (a b : Bool) → T (a && b) → T a × T b
 both true true h = (tt, tt)

@@ -1,11 +1,10 @@
 -- Two voices that are alike give equal frames and stay alike: what the next frames read, and what they do not. Assumes nothing.
 use Prim.Native.Nat.{ℕ}
-use mathlib.Core.Path.{_≡_, refl, sym, ap, _∙_, subst}
+use mathlib.Core.Path.{_≡_, refl, ap}
 use mathlib.Core.Logic.{_⊎_, inl, inr}
-use mathlib.Core.Bool.{Bool, true, false}
+use mathlib.Core.Bool.{Bool, true}
 use native.Mathlib.Omega.{arith}
 use lib.Ieee.{Float}
-use Rattle.chaos.specs.Advance.{advanced}
 use Rattle.settings.specs.declared.choices.LfoType.{LfoType}
 use Rattle.settings.specs.declared.choices.LfoType.the-variants.{Drawn, Path, Lorenz, Rossler, SampleAndHold}
 use Rattle.settings.specs.declared.choices.Mode.{Mode}
@@ -19,11 +18,11 @@ use Rattle.voice.specs.declared.Voice.{Voice}
 use Rattle.voice.specs.declared.source.Source.{Source}
 use Rattle.voice.specs.declared.output.Channel.{Channel}
 use Rattle.voice.specs.declared.output.Output.{Output}
-use Rattle.voice.specs.Source.{cycleOf, stepOf}
+use Rattle.voice.specs.Source.{cycleOf}
 use Rattle.voice.specs.Curve.{Curve}
 use Rattle.voice.specs.Generate.{countAt, sourceAfter, rawOf}
 use Rattle.voice.specs.Output.{capturedOf, postOf, secondOf, secondValue, posted, gainOf, laterOf}
-use Rattle.voice.specs.Frame.{Frame, frameOf}
+use Rattle.voice.specs.Frame.{frameOf}
 use Rattle.restart.specs.Rule.{Restarts}
 use Rattle.restart.proofs.Draws.{Draws, same-draw, first-draws}
 

@@ -16,7 +16,6 @@ use Rattle.clock.specs.Free.{newClock}
 use Rattle.clock.specs.Ready.{preparedOf}
 use Rattle.voice.specs.declared.Voice.{Voice}
 use Rattle.voice.specs.Curve.{Curve}
-use Rattle.voice.specs.Frame.{Frame}
 use Rattle.bank.specs.declared.parts.Pending.{Pending}
 use Rattle.bank.specs.declared.parts.Pending.the-variants.{None, At}
 use Rattle.questions.specs.declared.RestartCodes.{RestartCodes}
@@ -24,7 +23,7 @@ use Rattle.calls.specs.State.{State}
 use Rattle.calls.specs.Blocks.{pendingOf, playedState, values}
 use Rattle.calls.specs.Calls.{Call, settings, shape, path, bus, phase, block, answer, accepts, step}
 use Rattle.restart.specs.Heard.{Side, read, framesUpTo, blocksUpTo, heard, window}
-use Rattle.restart.specs.Rule.{Restarts, Rate, rateOf, inForce, Gets, Every, more}
+use Rattle.restart.specs.Rule.{Restarts, Rate, rateOf, Gets, Every, more}
 use Rattle.restart.proofs.Constants.{Constants, constantsOf, same-constants, not-locked}
 use Rattle.restart.proofs.Frames.{Running}
 use Rattle.restart.proofs.Stream.{later, plays, running-later, plays-add}

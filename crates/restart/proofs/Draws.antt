@@ -1,12 +1,12 @@
 -- Sample and hold: the first frame after a restart draws, so that equal random words are enough. Assumes nothing.
-use Prim.Native.Nat.{ℕ, zero, suc, _+_, _-_, _*_, _/_, _^_, _≤_, _<_, min, zero-le}
-use mathlib.Core.Path.{_≡_, refl, sym, ap, _∙_, subst}
+use Prim.Native.Nat.{ℕ, zero, suc, _+_, _-_, _*_, _/_, _^_, _≤_, _<_, zero-le}
+use mathlib.Core.Path.{_≡_, refl, ap, _∙_}
 use mathlib.Core.Logic.{_⊎_, inl, inr}
 use mathlib.Core.Bool.{Bool, true, false, cond}
-use native.Mathlib.Nat.{le-trans, le-refl, le-of-lt, add-le-add, min-eq-left, div-mul-le-self, le-of-mul-le-mul-right}
+use native.Mathlib.Nat.{le-trans, le-refl, le-of-lt, min-eq-left, div-mul-le-self, le-of-mul-le-mul-right}
 use native.Mathlib.Omega.{arith}
-use lib.Dec.{T, lit≤, lit<}
-use lib.IntN.{ℤ, pos, negsuc, negℤ}
+use lib.Dec.{lit≤, lit<}
+use lib.IntN.{ℤ, pos, negℤ}
 use lib.Ieee.{Float, nan, inf, fin, binary64, up, down, ofBits, add, mul, toSigned}
 use lib.Ieee.Fits.{down-pos}
 use borrow.Author.Tests.{ne-eqb}
@@ -22,7 +22,7 @@ use Rattle.position.specs.declared.swing.Swing.the-variants as Swing
 use Rattle.clock.specs.declared.anchor.Anchor.{Anchor}
 use Rattle.clock.specs.declared.anchor.Anchor.the-variants.{Samples}
 use Rattle.clock.specs.declared.block.Block.{Block}
-use Rattle.clock.specs.Anchor.{along, anchorAt}
+use Rattle.clock.specs.Anchor.{along}
 use Rattle.reach.specs.Bounds.{SwingIn}
 use Rattle.reach.proofs.Reach.{reached-size}
 use Rattle.reach.proofs.Swing.{floor-size, swung-in}

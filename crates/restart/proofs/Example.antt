@@ -1,12 +1,12 @@
 -- The hypotheses can be met: two lists with different seeds, settings at the start, edits, restarts, refused calls, transports and block lengths. Assumes nothing.
 use Prim.Native.Nat.{ℕ, _<_}
 use mathlib.Core.Path.{_≡_, refl}
-use mathlib.Core.Logic.{inl, inr}
+use mathlib.Core.Logic.{inl}
 use mathlib.Core.Bool.{true, false}
 use mathlib.Core.List.{List, [], _∷_, _++_}
 use native.Mathlib.Omega.{arith}
 use lib.ListN.{length, getD, replicate}
-use lib.Ieee.{Float, nan, inf, binary32, binary64, ofBits, eq, lt, le}
+use lib.Ieee.{Float, nan, inf, ofBits, eq, lt, le}
 use Rattle.floatlaws.specs.Numbers.{f32-0, f32-½, f32-1, f64-0, f64-1, f64-4, f64-120}
 use Rattle.floatlaws.specs.Extrema.{clampOf}
 use Rattle.listlaws.specs.Tables.{tabulate, lastWhere, inserted}
@@ -32,7 +32,7 @@ use Rattle.questions.specs.declared.RestartCodes.{RestartCodes}
 use Rattle.questions.specs.Limits.{f64-1000}
 use Rattle.questions.specs.Tests.{every, pointKnown, pointFinite, settingsFinite, transportFinite, transportIn}
 use Rattle.questions.specs.Questions.{firstNo, settingsQuestions, shapeQuestions, busQuestions, phaseQuestions, blockQuestions}
-use Rattle.calls.specs.State.{State, newState, withSettings, withShape, withBus, movedBuses}
+use Rattle.calls.specs.State.{newState, withSettings, withShape, withBus, movedBuses}
 use Rattle.calls.specs.Blocks.{pendingOf, playedState, values}
 use Rattle.calls.specs.Calls.{Call, settings, shape, path, bus, phase, block, questions, answer, makes, made, accepted, step, played, buffer}
 use Rattle.restart.specs.Heard.{after, Side, x-side, y-side, read, heard, window}
@@ -41,20 +41,20 @@ use Rattle.restart.proofs.RestartRule.{restart-rule}
 
 -- ---- what the calls are handed
 
-abbrev hertz : Float → RateCodes
+abbrev pub hertz : Float → RateCodes
 hertz hz = record { code = 1; division = 99; feel = 99; hz = hz; x10 = 0 }
 
 abbrev seconds : Float → SpanCodes
 seconds s = record { code = 2; division = 99; seconds = s }
 
-abbrev off : SpanCodes
+abbrev pub off : SpanCodes
 off = record { code = 0; division = 99; seconds = nan }
 
-abbrev unsmoothed : SmoothCodes
+abbrev pub unsmoothed : SmoothCodes
 unsmoothed = record { code = 0; coefficient = nan }
 
 -- a drawn shape in mode Restart, with song lock set, a delay and a fade
-abbrev drawn : SettingsCodes
+abbrev pub drawn : SettingsCodes
 drawn =
     record {
       kind = 0;
@@ -93,7 +93,7 @@ abbrev percent : ScaleCodes
 percent = record { code = 0; percent = f32-1 }
 
 -- one rate at two places of the song, stopped
-abbrev here : TransportCodes
+abbrev pub here : TransportCodes
 here =
     record {
       «sample_rate» = f64-1000;
@@ -106,7 +106,7 @@ here =
       scale = percent;
     }
 
-abbrev there : TransportCodes
+abbrev pub there : TransportCodes
 there =
     record {
       «sample_rate» = f64-1000;
@@ -163,13 +163,13 @@ triangle = shape (point f32-1 f32-0 ∷ point f32-0 f32-0 ∷ point f32-½ f32-1
 abbrev line : Call
 line = shape (point f32-0 f32-1 ∷ []) 1 noLoopback (f32-1 ∷ [])
 
-abbrev never : RestartCodes
+abbrev pub never : RestartCodes
 never = record { code = 0; frame = 99 }
 
-abbrev at : ℕ → RestartCodes
+abbrev pub at : ℕ → RestartCodes
 at k = record { code = 1; frame = k }
 
-abbrev room : List Float
+abbrev pub room : List Float
 room = replicate 8 nan
 
 -- ---- the two lists
@@ -198,7 +198,7 @@ rest₂ =
 abbrev calls₂ : List Call
 calls₂ = before₂ ++ (block there 0 (at 7) room room ∷ rest₂)
 
-makes-drawn : makes drawn ≡ true
+pub makes-drawn : makes drawn ≡ true
 unfolding firstNo settingsQuestions settingsKnown settingsFinite ofBits
 makes-drawn = refl
 
@@ -220,7 +220,7 @@ not-held : Drawn ≡ SampleAndHold → ⊥
 not-held e = let z : _≡_ {A = ℕ} 0 1 = cc in omega arith
 
 met : Hypotheses (made drawn 1) (made other 2) calls₁ calls₂ restart₁ restart₂ (rateOf here)
-unfolding restart₁ restart₂ throughout window after step answer questions firstNo settingsQuestions blockQuestions busQuestions settingsKnown settingsFinite transportKnown transportFinite transportIn settingsAt withSwitches withSpans rateAt spanAt smoothAt transportAt scaleAt accepted playedState withBus made newState lib.Ieee.neg le lt eq ofBits shapeQuestions phaseQuestions every pointKnown pointFinite withSettings withShape pendingOf  clampedSettings clampedRate clampedSpan movedBuses givenShape givenPoints pointOf modOf loopbackOf within shapeOf sortedArray sortedPoints insertPoint slotOf clampedPoint tabulate lastWhere inserted defaultShape clampOf
+unfolding restart₁ restart₂ throughout window after step answer questions firstNo settingsQuestions blockQuestions busQuestions settingsKnown settingsFinite transportKnown transportFinite transportIn settingsAt withSwitches withSpans rateAt spanAt smoothAt transportAt scaleAt accepted playedState withBus made newState lib.Ieee.neg le lt eq ofBits shapeQuestions phaseQuestions every pointKnown pointFinite withSettings withShape pendingOf clampedSettings clampedRate clampedSpan movedBuses givenShape givenPoints pointOf modOf loopbackOf within shapeOf sortedArray sortedPoints insertPoint slotOf clampedPoint tabulate lastWhere inserted defaultShape clampOf
 met =
     record {
       mode = inl refl;

@@ -1,36 +1,30 @@
 -- A voice that counts samples: its frames read neither the block's place nor theirs in it, and a stretch that goes on is begun as it is. Assumes nothing.
 use Prim.Native.Nat.{ℕ, _+_}
 use mathlib.Core.Path.{_≡_, refl, ap}
-use mathlib.Core.Logic.{_⊎_, inl, inr}
+use mathlib.Core.Logic.{inl, inr}
 use mathlib.Core.Bool.{true}
-use lib.Dec.{eqb}
 use lib.Ieee.{Float, eq}
 use borrow.Author.Tests.{eq-eqb}
 use Rattle.settings.specs.declared.choices.LfoType.{LfoType}
 use Rattle.settings.specs.declared.choices.LfoType.the-variants.{Drawn, Path, Lorenz, Rossler, SampleAndHold}
 use Rattle.settings.specs.declared.choices.Mode.{Mode}
-use Rattle.settings.specs.declared.choices.Mode.the-variants.{Free, Restart, OneShot}
 use Rattle.settings.specs.declared.choices.Direction.{Direction}
 use Rattle.settings.specs.declared.record.Settings.{Settings}
-use Rattle.settings.specs.declared.record.Smooth.{Smooth}
-use Rattle.position.specs.Position.{swungBy}
-use Rattle.position.specs.declared.swing.Swing.{Swing}
 use Rattle.clock.specs.declared.anchor.Anchor.{Anchor}
-use Rattle.clock.specs.declared.anchor.Anchor.the-variants.{Samples, Beats, Seconds}
+use Rattle.clock.specs.declared.anchor.Anchor.the-variants.{Samples}
 use Rattle.clock.specs.declared.block.Block.{Block}
 use Rattle.clock.specs.declared.block.SongLock.the-variants as SongLock
-use Rattle.clock.specs.Anchor.{anchorAt, cyclesAt, nextAnchor, begunOf}
+use Rattle.clock.specs.Anchor.{nextAnchor, begunOf}
 use Rattle.voice.specs.declared.Voice.{Voice}
 use Rattle.voice.specs.declared.source.Source.{Source}
 use Rattle.voice.specs.declared.begun.MadeFor.the-variants as MadeFor
 use Rattle.voice.specs.Source.{isMadeFor, kindNumber}
 use Rattle.voice.specs.Curve.{Curve}
-use Rattle.voice.specs.Generate.{countAt, sourceAfter, rawOf}
-use Rattle.voice.specs.Output.{posted}
-use Rattle.voice.specs.Frame.{Frame, frameOf}
+use Rattle.voice.specs.Generate.{countAt, sourceAfter}
+use Rattle.voice.specs.Frame.{frameOf}
 use Rattle.voice.specs.Voice.{begunSource, begunAnchor, begunVoice}
 use Rattle.restart.specs.Rule.{Restarts}
-use Rattle.restart.proofs.Constants.{Constants, constantsOf}
+use Rattle.restart.proofs.Constants.{constantsOf}
 
 -- it counts samples by inc, and has begun for this type
 pub record Running (kind : LfoType) (inc : Float) (v : Voice) : Type 0 where
@@ -40,18 +34,6 @@ pub record Running (kind : LfoType) (inc : Float) (v : Voice) : Type 0 where
   pub made : v .«made_for» ≡ MadeFor.For kind
 
 -- ---- a frame
-
--- of its count and the source after it
-abbrev pub shaped : LfoType → Mode → Direction → Curve → Smooth → Voice → Float → Source → Frame
-shaped kind mode direction q smooth v c source =
-    let raw = rawOf kind mode direction q source c in
-    let out = posted kind smooth (v .output) (raw .x) (raw .y) in
-    record {
-      voice = record { anchor = nextAnchor (v .anchor); source = source; output = out .output; «made_for» = v .«made_for» };
-      x = out .x;
-      y = out .y;
-      count = c;
-    }
 
 count-same : (mode : Mode) (b b′ : Block) (k k′ : ℕ) (kind : LfoType) (inc : Float) (v : Voice) → Restarts mode → b .swing ≡ b′ .swing → Running kind inc v
     → countAt mode b (v .anchor) k ≡ countAt mode b′ (v .anchor) k′

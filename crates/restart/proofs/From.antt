@@ -1,21 +1,16 @@
 -- One list of calls: the frames from its restart are frames of the voice as the restart leaves it. Assumes nothing.
-use Prim.Native.Nat.{ℕ, _+_, _-_, _<_, min}
+use Prim.Native.Nat.{ℕ, _+_, _-_}
 use mathlib.Core.Path.{_≡_, refl, sym, ap, ap₂, _∙_, subst}
 use mathlib.Core.Bool.{true}
 use mathlib.Core.List.{List, _++_}
-use native.Mathlib.Omega.{arith}
-use lib.ListN.{length, getD, drop}
-use lib.Ieee.{Float, nan}
+use lib.ListN.{drop}
+use lib.Ieee.{Float}
 use borrow.Author.Tests.{eq-eqb}
-use Rattle.settings.specs.declared.choices.LfoType.the-variants.{SampleAndHold}
 use Rattle.settings.specs.declared.record.Settings.{Settings}
 use Rattle.settings.specs.declared.record.Transport.{Transport}
-use Rattle.settings.specs.declared.record.TransportCodes.{TransportCodes}
 use Rattle.clock.specs.declared.block.Block.{Block}
 use Rattle.clock.specs.declared.block.SongLock.the-variants as SongLock
-use Rattle.clock.specs.Free.{newClock}
 use Rattle.clock.specs.Ready.{preparedOf}
-use Rattle.reach.specs.Bounds.{TransportIn}
 use Rattle.voice.specs.declared.Voice.{Voice}
 use Rattle.voice.specs.Curve.{Curve}
 use Rattle.voice.specs.Voice.{triggeredVoice}
@@ -27,20 +22,16 @@ use Rattle.slot.specs.Slot.{slotCurve}
 use Rattle.questions.specs.declared.RestartCodes.{RestartCodes}
 use Rattle.calls.specs.State.{State}
 use Rattle.calls.specs.Blocks.{pendingOf, playedState, values}
-use Rattle.calls.specs.Calls.{Call, block, answer, accepts, made}
-use Rattle.restart.specs.Heard.{Side, x-side, y-side, read, heard, window}
-use Rattle.restart.specs.Rule.{RestartIn, voiceAt, stateAt, statePast, frameAt, framesFrom, throughout, wordAt, Restarts, Equal, Rate, rateOf, Gets, Every, Hypotheses, RestartRule}
+use Rattle.calls.specs.Calls.{Call, block, answer, accepts}
+use Rattle.restart.specs.Heard.{Side, read, heard, window}
+use Rattle.restart.specs.Rule.{RestartIn, stateAt, statePast, frameAt, framesFrom, throughout, wordAt, Rate, Gets, Every}
 use Rattle.restart.proofs.Constants.{Constants, constantsOf}
 use Rattle.restart.proofs.Frames.{Running}
-use Rattle.restart.proofs.Alike.{Alike}
-use Rattle.restart.proofs.Stream.{tone, later, plays, running-later, length-plays, plays-at, plays-add, alike-x, alike-y}
-use Rattle.restart.proofs.Parts.{reaches, reaches-made, restarted-is, restarted-runs, from-outs, from-voice}
-use Rattle.restart.proofs.Restarted.{triggered-alike}
+use Rattle.restart.proofs.Stream.{running-later, plays-add}
+use Rattle.restart.proofs.Parts.{reaches, restarted-is, restarted-runs, from-outs, from-voice}
 use Rattle.restart.proofs.Accepted.{Passes}
-use Rattle.restart.proofs.Settled.{Settled}
-use Rattle.restart.proofs.Ready.{inc-number, starts, swing-fits}
+use Rattle.restart.proofs.Ready.{inc-number}
 use Rattle.restart.proofs.Steps.{valueOf, block-runs, read-values, Has, values-parts, played-voice, has-played}
-use Rattle.restart.proofs.Reach.{Good, good-made, good-after}
 use Rattle.restart.proofs.Cuts.{head, tail, Standing, standing, constants-stand, unlocked, ahead, sounds, Steady, Plays, heard-plays}
 
 pending-at : (r : RestartCodes) → r .code ≡ 1 → pendingOf r ≡ At (r .frame)

@@ -1,6 +1,6 @@
 -- A stored curve is told by the points that are kept, and by the legs handed in with them: its arrays hold blanks after those. Assumes nothing.
 use Prim.Native.Nat.{ℕ, zero, suc, _-_, _≤_, _<_, min}
-use mathlib.Core.Path.{_≡_, refl, sym, ap, ap₂, _∙_, subst}
+use mathlib.Core.Path.{_≡_, refl, sym, ap, ap₂, _∙_}
 use mathlib.Core.List.{List, [], _∷_, _++_}
 use native.Mathlib.Omega.{arith}
 use lib.ListN.{length, getD, take, replicate}
@@ -10,11 +10,9 @@ use Rattle.floatlaws.specs.Numbers.{f32-0}
 use Rattle.floatlaws.specs.Rounded.{_+₃₂_}
 use Rattle.listlaws.specs.Tables.{tabulate, padded}
 use Rattle.listlaws.proofs.Tabulation.{length-tabulate}
-use Rattle.shape.specs.declared.Loopback.{Loopback}
 use Rattle.shape.specs.declared.Shape.{Shape}
-use Rattle.shape.specs.declared.sorting.Point.{Point}
 use Rattle.shape.specs.Points.{blank, sortedPoints, sortedArray}
-use Rattle.shape.specs.Shapes.{shapeOf, withLoopback, defaultShape}
+use Rattle.shape.specs.Shapes.{shapeOf, defaultShape}
 use Rattle.shape.proofs.Slots.{length-sorted}
 use Rattle.path_segments.specs.Times.{sumTo, shareOf, timeAt, timesOf}
 use Rattle.path.specs.declared.Path.{Path}

@@ -16,3 +16,4 @@ pub mod Cuts
 pub mod From
 pub mod RestartRule
 pub mod Example
+pub mod HeldExample

@@ -3,12 +3,10 @@ use Prim.Native.Nat.{ℕ, zero, suc, _-_, min}
 use mathlib.Core.Path.{_≡_, refl, ap, _∙_}
 use mathlib.Core.Logic.{inl, inr}
 use mathlib.Core.Bool.{true}
-use mathlib.Core.List.{List, _++_}
 use lib.ListN.{take, drop}
 use lib.Seq.{take-at, drop-at}
 use lib.Ieee.{Float, eq}
 use Rattle.settings.specs.declared.choices.Mode.{Mode}
-use Rattle.settings.specs.declared.choices.Mode.the-variants.{Free, Restart, OneShot}
 use Rattle.settings.specs.declared.record.Settings.{Settings}
 use Rattle.clock.specs.declared.anchor.Anchor.{Anchor}
 use Rattle.clock.specs.declared.anchor.Anchor.the-variants.{Samples}
@@ -25,7 +23,7 @@ use Rattle.bank.specs.Render.{voiceAfter, outs}
 use Rattle.bank.specs.Parts.{begun, restarted, partsVoice, partsOuts}
 use Rattle.bank.proofs.Frames.{length-outs}
 use Rattle.restart.specs.Rule.{Restarts}
-use Rattle.restart.proofs.Constants.{Constants, constantsOf}
+use Rattle.restart.proofs.Constants.{constantsOf}
 use Rattle.restart.proofs.Frames.{Running, begun-same}
 use Rattle.restart.proofs.Stream.{later, plays, after-later, outs-plays}
 

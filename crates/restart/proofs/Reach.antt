@@ -1,6 +1,6 @@
 -- Every player that calls reach has settled settings, and curves that their kept points tell. Assumes nothing.
 use Prim.Native.Nat.{ℕ}
-use mathlib.Core.Path.{_≡_, refl, ap, _∙_}
+use mathlib.Core.Path.{_≡_, refl}
 use mathlib.Core.Bool.{Bool, true, false, cond}
 use mathlib.Core.List.{List, [], _∷_}
 use lib.Dec.{T}
@@ -16,7 +16,6 @@ use Rattle.settings.specs.declared.record.TransportCode.{TransportCode}
 use Rattle.settings.specs.declared.record.TransportCode.the-variants as TransportCode
 use Rattle.settings.specs.Codes.{settingsAt, transportAt}
 use Rattle.settings.specs.Records.{defaultSettings}
-use Rattle.voice.specs.Curve.{Curve}
 use Rattle.slot.specs.Slot.{slotCurve}
 use Rattle.slot.specs.Moved.{curveOf}
 use Rattle.questions.specs.Tests.{settingsFinite}

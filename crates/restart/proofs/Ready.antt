@@ -1,17 +1,16 @@
 -- What holds of a block that is made of settings and a transport as accepted calls leave them. Assumes nothing.
 use Prim.Native.Nat.{ℕ, _<_}
-use mathlib.Core.Path.{_≡_, refl, sym, subst}
-use mathlib.Core.Logic.{_⊎_, inl, inr}
+use mathlib.Core.Path.{_≡_}
+use mathlib.Core.Logic.{_⊎_, inr}
 use mathlib.Core.Bool.{Bool, true, false, _&&_, cond}
 use lib.Dec.{T, ltb, ltb→lt, lit≤}
-use lib.Ieee.{Float, nan, eq}
+use lib.Ieee.{nan, eq}
 use lib.Ieee.Bits.{is-true}
 use Rattle.floatlaws.proofs.NoNan.{finite-number}
 use Rattle.floatlaws.proofs.Order.{eq-refl-at}
 use Rattle.floatlaws.proofs.Size.{Size, size-finite, size-more}
 use Rattle.settings.specs.declared.record.Settings.{Settings}
 use Rattle.settings.specs.declared.record.Transport.{Transport}
-use Rattle.clock.specs.declared.block.Block.{Block}
 use Rattle.clock.specs.declared.free.Clock.{Clock}
 use Rattle.clock.specs.Ready.{phaseOf, snapped, startPhase, paceAt, blockOf, preparedOf}
 use Rattle.reach.specs.Bounds.{TransportIn, SwingIn}

@@ -7,7 +7,6 @@ use lib.ListN.{length, getD}
 use lib.Ieee.{Float, nan}
 use Rattle.settings.specs.declared.choices.LfoType.the-variants.{SampleAndHold}
 use Rattle.settings.specs.declared.record.Settings.{Settings}
-use Rattle.settings.specs.declared.record.TransportCodes.{TransportCodes}
 use Rattle.clock.specs.declared.block.Block.{Block}
 use Rattle.clock.specs.Free.{newClock}
 use Rattle.clock.specs.Ready.{preparedOf}
@@ -19,7 +18,7 @@ use Rattle.slot.specs.Slot.{slotCurve}
 use Rattle.calls.specs.State.{State}
 use Rattle.calls.specs.Calls.{Call, made}
 use Rattle.restart.specs.Heard.{Side, x-side, y-side}
-use Rattle.restart.specs.Rule.{RestartIn, stateAt, frameAt, framesFrom, throughout, wordAt, Equal, Rate, rateOf, Gets, Every, Hypotheses, RestartRule}
+use Rattle.restart.specs.Rule.{RestartIn, stateAt, frameAt, framesFrom, throughout, Rate, rateOf, Gets, Every, Hypotheses, RestartRule}
 use Rattle.restart.proofs.Alike.{Alike}
 use Rattle.restart.proofs.Stream.{tone, length-plays, plays-at, alike-x, alike-y}
 use Rattle.restart.proofs.Parts.{reaches, reaches-made}

@@ -1,5 +1,5 @@
 -- Two restarts in blocks of one rate leave voices that are alike, whatever the voices were. Assumes nothing.
-use Prim.Native.Nat.{ℕ, _+_, _-_, _^_, zero-le}
+use Prim.Native.Nat.{_+_, _-_, _^_, zero-le}
 use mathlib.Core.Path.{_≡_, refl, sym, ap, ap₂, _∙_}
 use mathlib.Core.Logic.{_⊎_, inl, inr}
 use lib.Dec.{lit≤}
@@ -8,7 +8,6 @@ use Rattle.floatlaws.proofs.Size.{Size, size-more}
 use Rattle.settings.specs.declared.choices.LfoType.{LfoType}
 use Rattle.settings.specs.declared.choices.LfoType.the-variants.{Drawn, Path, Lorenz, Rossler, SampleAndHold}
 use Rattle.settings.specs.declared.choices.Mode.{Mode}
-use Rattle.settings.specs.declared.choices.Mode.the-variants.{Free, Restart, OneShot}
 use Rattle.settings.specs.declared.times.Span.{Span}
 use Rattle.settings.specs.declared.times.Span.the-variants as Span
 use Rattle.settings.specs.declared.record.Settings.{Settings}
@@ -19,14 +18,12 @@ use Rattle.clock.specs.declared.block.Block.{Block}
 use Rattle.clock.specs.declared.block.SongLock.the-variants as SongLock
 use Rattle.clock.specs.Spans.{lengthOf, spanLength, samplesOf}
 use Rattle.voice.specs.declared.Voice.{Voice}
-use Rattle.voice.specs.declared.source.Source.{Source}
-use Rattle.voice.specs.declared.begun.MadeFor.the-variants as MadeFor
 use Rattle.voice.specs.Source.{attractorAt}
 use Rattle.voice.specs.Voice.{freshSource, restartedSource, inverseOf, restartedOutput, triggeredVoice}
 use Rattle.restart.specs.Rule.{Restarts}
-use Rattle.restart.proofs.Constants.{Constants, constantsOf}
-use Rattle.restart.proofs.Draws.{First, Due}
-use Rattle.restart.proofs.Alike.{SourceAlike, OutAlike, Alike}
+use Rattle.restart.proofs.Constants.{constantsOf}
+use Rattle.restart.proofs.Draws.{First}
+use Rattle.restart.proofs.Alike.{SourceAlike, Alike}
 use Rattle.restart.proofs.Parts.{triggered-anchor}
 
 -- a span in samples is by the block's constants

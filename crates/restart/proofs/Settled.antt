@@ -1,8 +1,7 @@
 -- What holds of the settings of every player: no number in them is a NaN. Nothing is asked of the grid. Assumes nothing.
 use Prim.Native.Nat.{ℕ, zero, suc}
-use mathlib.Core.Path.{_≡_, refl}
-use mathlib.Core.Bool.{Bool, true, false, _&&_, cond}
-use mathlib.Core.List.{List, [], _∷_}
+use mathlib.Core.Bool.{Bool, true, _&&_, cond}
+use mathlib.Core.List.{[], _∷_}
 use lib.Dec.{T, eqb, lit<}
 use lib.ListN.{getD}
 use lib.Ieee.{Float, isNan, ofBits}

@@ -1,21 +1,21 @@
 -- A Phase from 0 to 1 cycle that is snapped to a grid of any number of lines is at most 2, if it is a number at all. Assumes nothing.
-use Prim.Native.Nat.{ℕ, zero, suc, _+_, _*_, _/_, _^_, _≤_, _<_}
+use Prim.Native.Nat.{ℕ, suc, _+_, _*_, _/_, _≤_, _<_}
 use mathlib.Core.Path.{_≡_, refl, sym, ap, _∙_, subst}
 use mathlib.Core.Logic.{_⊎_, inl, inr}
 use mathlib.Core.Bool.{Bool, true, false, cond}
-use native.Mathlib.Nat.{le-trans, le-of-eq, le-of-lt, zero-lt-suc, mul-comm, mul-assoc, mul-one, one-mul, mul-right-comm, mul-pos, mul-le-mul, mul-le-mul-left, mul-le-mul-right, le-of-mul-le-mul-right, lt-of-lt-of-le, div-add-mod', mod-lt, suc-mul}
+use native.Mathlib.Nat.{le-trans, le-of-eq, zero-lt-suc, mul-comm, mul-assoc, mul-one, one-mul, mul-right-comm, mul-pos, mul-le-mul-right, le-of-mul-le-mul-right, div-add-mod', mod-lt, suc-mul}
 use native.Mathlib.Omega.{arith}
 use lib.Dec.{T, eqb, lit≤}
 use lib.IntN.{ℤ, pos}
 use lib.Ieee.{Float, nan, inf, fin, binary64, up, down, round, unlike, fits, neg, mul, div, ofInt, le}
 use lib.Ieee.Exact.{HasValue}
-use lib.Ieee.Fits.{up-pos, down-pos, mul-fits, ofInt-fits}
+use lib.Ieee.Fits.{down-pos, mul-fits, ofInt-fits}
 use lib.Ieee.Order.{round-mono}
 use Rattle.floatlaws.specs.Rounded.{toF64}
 use Rattle.floatlaws.specs.Whole.{wholeOf, wholeSize, toHalf}
 use Rattle.floatlaws.proofs.Order.{le-says, between-finite}
 use Rattle.floatlaws.proofs.Range.{at-least-zero}
-use Rattle.floatlaws.proofs.Size.{Sized, Least, Size, AtLeast, div-size}
+use Rattle.floatlaws.proofs.Size.{Sized, Size, div-size}
 use Rattle.floatlaws.proofs.Unique.{neg-round, round-held}
 use Rattle.floatlaws.proofs.Unit.{zero-float, one-float}
 use Rattle.floatlaws.proofs.Whole.{whole-value}

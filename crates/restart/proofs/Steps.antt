@@ -1,6 +1,6 @@
 -- A call of a player: a refused one leaves it, and an accepted block is a block of its voice. Assumes nothing.
 use Prim.Native.Nat.{ℕ, _-_, min}
-use mathlib.Core.Path.{_≡_, refl, ap, _∙_}
+use mathlib.Core.Path.{_≡_, refl}
 use mathlib.Core.Bool.{Bool, true, false, cond}
 use mathlib.Core.List.{List}
 use native.Mathlib.Nat.{min-le-right}

@@ -19,7 +19,7 @@ use Rattle.voice.specs.Curve.{Curve}
 use Rattle.voice.specs.Frame.{Frame, frameOf}
 use Rattle.bank.specs.Render.{voiceAfter, outs}
 use Rattle.restart.specs.Rule.{Restarts}
-use Rattle.restart.proofs.Constants.{Constants, constantsOf}
+use Rattle.restart.proofs.Constants.{constantsOf}
 use Rattle.restart.proofs.Frames.{Running, same-frame, running-frame}
 use Rattle.restart.proofs.Alike.{Alike, frame-alike}
 

@@ -5,7 +5,6 @@ use mathlib.Core.List.{List, [], _∷_, _++_}
 use lib.ListN.{take}
 use lib.Ieee.{Float}
 use Rattle.settings.specs.declared.record.TransportCodes.{TransportCodes}
-use Rattle.voice.specs.Frame.{Frame}
 use Rattle.bank.specs.declared.parts.Pending.{Pending}
 use Rattle.bank.specs.declared.parts.Pending.the-variants.{None, At}
 use Rattle.questions.specs.declared.RestartCodes.{RestartCodes}

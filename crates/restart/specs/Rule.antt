@@ -17,7 +17,6 @@ use Rattle.settings.specs.declared.record.SettingsCodes.{SettingsCodes}
 use Rattle.settings.specs.declared.record.Transport.{Transport}
 use Rattle.settings.specs.declared.record.TransportCodes.{TransportCodes}
 use Rattle.settings.specs.Codes.{transportAt}
-use Rattle.clock.specs.declared.block.Block.{Block}
 use Rattle.clock.specs.Ready.{preparedOf}
 use Rattle.voice.specs.declared.Voice.{Voice}
 use Rattle.bank.specs.Render.{voiceAfter}
