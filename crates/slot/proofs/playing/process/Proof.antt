@@ -35,6 +35,7 @@ render-parts-requires c κs =
     let s = p .before .before .before .before .before .before in
     block-stretch _ _ _ _ _ (s .pre) _ _ _ _ (p .prepare .ensures) (record { slot-is = joined j; points-are = n .point-count .ensures; from-is = l .loop-point .ensures })
 
+-- field by field, so that a refusal names the fact
 returns : tie.Need-returns
 returns c =
     let r = c .before .before .before .before .before .before .before .before .before .before in
@@ -43,10 +44,19 @@ returns c =
     let j = n .before .before in
     let p = j .before .before .before in
     let s = p .before .before .before .before .before .before in
+    let g =
     block-gives _ _ _ _ _ (s .pre) _ _ _ _ _ _ _ _ _ (p .prepare .ensures)
     (record { slot-is = joined j; points-are = n .point-count .ensures; from-is = l .loop-point .ensures })
     (r .render-parts .ensures)
-    (c .finished .ensures)
+    (c .finished .ensures) in
+    record {
+      lfo-is = g .lfo-is;
+      voice-is = g .voice-is;
+      finished-is = g .finished-is;
+      x-is = g .x-is;
+      y-is = g .y-is;
+      slot-in = g .slot-in;
+    }
 
 pub process-spec : {M : Type 1} → statement M
 process-spec =
