@@ -10,7 +10,7 @@ use std::hint::black_box;
 use std::io::Write;
 use std::process::{Command, Stdio};
 
-const FRAMES: usize = 2_048_000;
+const FRAMES: usize = 512_000;
 const SIZES: [usize; 3] = [512, 64, 16];
 const ITEMS: [(&str, LfoType); 5] = [
     ("Drawn, default shape", LfoType::Drawn),
@@ -106,7 +106,7 @@ fn median(mut v: Vec<f64>) -> f64 {
 fn main() {
     let args: Vec<String> = std::env::args().collect();
     let program = args.get(1).expect("bench PROGRAM [ROUNDS]");
-    let rounds: usize = args.get(2).map_or(9, |n| n.parse().unwrap());
+    let rounds: usize = args.get(2).map_or(31, |n| n.parse().unwrap());
     for item in 0..ITEMS.len() {
         for size in SIZES {
             assert_eq!(ours(program, item, size, true), format!("{:016x}", bits(item, size)), "{} differs", ITEMS[item].0);
