@@ -1,0 +1,68 @@
+-- A shape and a path as a call hands them in: `count` points, of which an array holds the first 64, and the numbers supplied with them. Of a code that question 1 refuses
+-- nothing is meant: it counts as absent, or as no. Assumes nothing.
+use Prim.Native.Nat.{ℕ, min}
+use mathlib.Core.Bool.{Bool, cond}
+use mathlib.Core.List.{List}
+use lib.Dec.{eqb}
+use lib.ListN.{getD}
+use lib.Ieee.{Float, nan}
+use Rattle.floatlaws.specs.Numbers.{f32-0}
+use Rattle.listlaws.specs.Tables.{tabulate, padded}
+use Rattle.points.specs.declared.PointMod.{PointMod}
+use Rattle.points.specs.declared.PointMod.the-variants as PointMod
+use Rattle.shape.specs.declared.sorting.Point.{Point}
+use Rattle.shape.specs.declared.Loopback.{Loopback}
+use Rattle.shape.specs.declared.Loopback.the-variants as Loopback
+use Rattle.shape.specs.declared.Shape.{Shape}
+use Rattle.shape.specs.Points.{blank}
+use Rattle.shape.specs.Shapes.{newShape, withLoopback}
+use Rattle.path.specs.declared.PathPoint.{PathPoint}
+use Rattle.path.specs.declared.Path.{Path}
+use Rattle.path.specs.Paths.{blankPathPoint, pathOf}
+use Rattle.curves.specs.declared.ModCodes.{ModCodes}
+use Rattle.curves.specs.declared.PointCodes.{PointCodes}
+use Rattle.curves.specs.declared.PathPointCodes.{PathPointCodes}
+use Rattle.curves.specs.declared.LoopbackCodes.{LoopbackCodes}
+
+abbrev pub isYes : ℕ → Bool
+isYes code = eqb code 1
+
+unfoldable pub modOf : ModCodes → PointMod
+modOf c = cond (isYes (c .code)) (PointMod.Bus (c .bus) (c .depth)) PointMod.None
+
+-- what `getD` gives past a list's end; no definition here looks there
+abbrev pub noMod : ModCodes
+noMod = record { code = 0; bus = 0; depth = nan }
+
+-- ---- a shape
+
+abbrev pub noPointCodes : PointCodes
+noPointCodes = record { x = nan; y = nan; curve = nan; step = 0; «x_mod» = noMod; «y_mod» = noMod }
+
+-- a point with its strength
+unfoldable pub pointOf : PointCodes → Float → Point
+pointOf c e = record { x = c .x; y = c .y; curve = c .curve; strength = e; step = isYes (c .step); «x_mod» = modOf (c .«x_mod»); «y_mod» = modOf (c .«y_mod») }
+
+-- the first n points, each with its strength
+unfoldable pub givenPoints : List PointCodes → List Float → ℕ → List Point
+givenPoints points strengths n = padded 64 blank (tabulate (λ i. pointOf (getD points i noPointCodes) (getD strengths i nan)) n)
+
+unfoldable pub loopbackOf : LoopbackCodes → Loopback
+loopbackOf c = cond (isYes (c .code)) (Loopback.At (c .index)) Loopback.None
+
+unfoldable pub givenShape : List PointCodes → ℕ → LoopbackCodes → List Float → Shape
+givenShape points count loopback strengths = withLoopback (newShape (givenPoints points strengths (min count 64)) count) (loopbackOf loopback)
+
+-- ---- a path
+
+abbrev pub noPathPointCodes : PathPointCodes
+noPathPointCodes = record { x = nan; y = nan; bend = nan; «x_mod» = noMod; «y_mod» = noMod }
+
+unfoldable pub pathPointOf : PathPointCodes → PathPoint
+pathPointOf c = record { x = c .x; y = c .y; bend = c .bend; «x_mod» = modOf (c .«x_mod»); «y_mod» = modOf (c .«y_mod») }
+
+unfoldable pub givenPathPoints : List PathPointCodes → ℕ → List PathPoint
+givenPathPoints points n = padded 64 blankPathPoint (tabulate (λ i. pathPointOf (getD points i noPathPointCodes)) n)
+
+unfoldable pub givenPath : List PathPointCodes → ℕ → ℕ → List Float → Path
+givenPath points count closed legs = pathOf (givenPathPoints points (min count 64)) count (isYes closed) (padded 64 f32-0 legs)

@@ -1,0 +1,101 @@
+-- What the questions test, each of what a call hands in. Fields of a case that was not chosen, and what stands under "absent", are not looked at. Assumes nothing.
+use Prim.Native.Nat.{ℕ, zero, suc}
+use mathlib.Core.Bool.{Bool, true, _&&_, cond}
+use mathlib.Core.List.{List}
+use lib.Dec.{eqb, ltb}
+use lib.ListN.{length, getD}
+use lib.Ieee.{Float, nan, le}
+use lib.Ieee.Scale.{finite}
+use Rattle.floatlaws.specs.Numbers.{f32-0, f32-1, f32-2, f64-0, f64-¼}
+use Rattle.settings.specs.declared.record.SettingsCodes.{SettingsCodes}
+use Rattle.settings.specs.declared.record.SmoothCodes.{SmoothCodes}
+use Rattle.settings.specs.declared.record.TransportCodes.{TransportCodes}
+use Rattle.settings.specs.declared.times.RateCodes.{RateCodes}
+use Rattle.settings.specs.declared.times.SpanCodes.{SpanCodes}
+use Rattle.curves.specs.declared.ModCodes.{ModCodes}
+use Rattle.curves.specs.declared.PointCodes.{PointCodes}
+use Rattle.curves.specs.declared.PathPointCodes.{PathPointCodes}
+use Rattle.curves.specs.declared.LoopbackCodes.{LoopbackCodes}
+use Rattle.questions.specs.Limits.{f32-1/16, f32-16, f64-64, f64-1000, f64-768000, f64-2147483647, f64-minus2147483648}
+
+-- a test of 0, 1, .. n - 1
+unfoldable pub every : (ℕ → Bool) → ℕ → Bool
+every t zero = true
+every t (suc n) = every t n && t n
+
+-- a test of each of a list of floats
+abbrev pub everyOf : (Float → Bool) → List Float → Bool
+everyOf t l = every (λ k. t (getD l k nan)) (length l)
+
+abbrev pub between : Float → Float → Float → Bool
+between lo x hi = le lo x && le x hi
+
+-- ---- 1. "Is each code known"; of settings and transports `settingsKnown` and `transportKnown` of crate settings
+
+abbrev pub modKnown : ModCodes → Bool
+modKnown c = ltb (c .code) 2
+
+unfoldable pub pointKnown : PointCodes → Bool
+pointKnown c = ltb (c .step) 2 && modKnown (c .«x_mod») && modKnown (c .«y_mod»)
+
+unfoldable pub pathPointKnown : PathPointCodes → Bool
+pathPointKnown c = modKnown (c .«x_mod») && modKnown (c .«y_mod»)
+
+-- ---- 2. "Is each float finite"
+
+abbrev pub rateFinite : RateCodes → Bool
+rateFinite c = cond (eqb (c .code) 1) (finite (c .hz)) true
+
+abbrev pub spanFinite : SpanCodes → Bool
+spanFinite c = cond (eqb (c .code) 2) (finite (c .seconds)) true
+
+abbrev pub smoothFinite : SmoothCodes → Bool
+smoothFinite c = cond (eqb (c .code) 1) (finite (c .coefficient)) true
+
+unfoldable pub settingsFinite : SettingsCodes → Bool
+settingsFinite c = rateFinite (c .rate) && spanFinite (c .«fade_in») && spanFinite (c .delay) && smoothFinite (c .smooth) && finite (c .phase)
+
+abbrev pub modFinite : ModCodes → Bool
+modFinite c = cond (eqb (c .code) 1) (finite (c .depth)) true
+
+unfoldable pub pointFinite : PointCodes → Bool
+pointFinite c = finite (c .x) && finite (c .y) && finite (c .curve) && modFinite (c .«x_mod») && modFinite (c .«y_mod»)
+
+unfoldable pub pathPointFinite : PathPointCodes → Bool
+pathPointFinite c = finite (c .x) && finite (c .y) && finite (c .bend) && modFinite (c .«x_mod») && modFinite (c .«y_mod»)
+
+unfoldable pub transportFinite : TransportCodes → Bool
+transportFinite c =
+    finite (c .«sample_rate»)
+    && finite (c .tempo)
+    && finite (c .«beats_per_bar»)
+    && finite (c .beats)
+    && finite (c .seconds)
+    && finite (c .swing)
+    && finite (c .scale .percent)
+
+-- ---- 4. "Is the loopback, if present, below the number of points kept"
+
+abbrev pub loopbackBelow : LoopbackCodes → ℕ → Bool
+loopbackBelow c n = cond (eqb (c .code) 1) (ltb (c .index) n) true
+
+-- ---- 5. "Is each bend strength within 1/16 to 16, each leg within 0 to 2, and the smoothing coefficient, if present, within 0 to 1"
+
+abbrev pub strengthIn : Float → Bool
+strengthIn e = between f32-1/16 e f32-16
+
+abbrev pub legIn : Float → Bool
+legIn l = between f32-0 l f32-2
+
+abbrev pub smoothIn : SmoothCodes → Bool
+smoothIn c = cond (eqb (c .code) 1) (between f32-0 (c .coefficient) f32-1) true
+
+-- ---- 6. "sample rate 1,000 to 768,000; tempo 0 to 1,000; beats per bar 0.25 to 64; beats and seconds −2,147,483,648 to 2,147,483,647"
+
+unfoldable pub transportIn : TransportCodes → Bool
+transportIn c =
+    between f64-1000 (c .«sample_rate») f64-768000
+    && between f64-0 (c .tempo) f64-1000
+    && between f64-¼ (c .«beats_per_bar») f64-64
+    && between f64-minus2147483648 (c .beats) f64-2147483647
+    && between f64-minus2147483648 (c .seconds) f64-2147483647
