@@ -41,8 +41,8 @@ modulation =
     done (record { code = code; bus = bus; depth = depth })
 
 -- what the array has past the last point
-abbrev pub noMod : ModCodes
-noMod = record { code = 0; bus = 0; depth = f32-0 }
+abbrev pub blankMod : ModCodes
+blankMod = record { code = 0; bus = 0; depth = f32-0 }
 
 -- ---- shapes
 
@@ -57,11 +57,11 @@ point =
     modulation then λ y-mod.
     done (record { x = x; y = y; curve = curve; step = step; «x_mod» = x-mod; «y_mod» = y-mod })
 
-abbrev pub noPoint : PointCodes
-noPoint = record { x = f32-0; y = f32-0; curve = f32-0; step = 0; «x_mod» = noMod; «y_mod» = noMod }
+abbrev pub blankPoint : PointCodes
+blankPoint = record { x = f32-0; y = f32-0; curve = f32-0; step = 0; «x_mod» = blankMod; «y_mod» = blankMod }
 
 abbrev pub points : ℕ → Parser (List PointCodes)
-points = kept noPoint point
+points = kept blankPoint point
 
 -- loopback = 0 | 1 index
 unfoldable pub loopback : Parser LoopbackCodes
@@ -94,11 +94,11 @@ pathPoint =
     modulation then λ y-mod.
     done (record { x = x; y = y; bend = bend; «x_mod» = x-mod; «y_mod» = y-mod })
 
-abbrev pub noPathPoint : PathPointCodes
-noPathPoint = record { x = f32-0; y = f32-0; bend = f32-0; «x_mod» = noMod; «y_mod» = noMod }
+abbrev pub blankPathPoint : PathPointCodes
+blankPathPoint = record { x = f32-0; y = f32-0; bend = f32-0; «x_mod» = blankMod; «y_mod» = blankMod }
 
 abbrev pub pathPoints : ℕ → Parser (List PathPointCodes)
-pathPoints = kept noPathPoint pathPoint
+pathPoints = kept blankPathPoint pathPoint
 
 pub record PathCodes : Type 0 where
   pub points : List PathPointCodes
@@ -115,7 +115,7 @@ path =
     list then λ legs.
     done (record { points = points; count = n; closed = closed; legs = legs })
 
--- How a program says it: the strengths, or the legs, are the first of a buffer of 4,096.
+-- How a program says it: the strengths, or the legs, are the first `len` of a buffer.
 abbrev pub shapeRead : ShapeRead → List Float → ShapeCodes
 shapeRead r buffer = record { points = r .points; count = r .count; loopback = r .loopback; strengths = take (r .len) buffer }
 

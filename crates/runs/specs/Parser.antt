@@ -32,6 +32,6 @@ done a run at = read a at
 abbrev pub onward : {A : Type 0} → Place → (ℕ → Parsed A) → Parsed A
 onward from p = cond (from .good) (p (from .at)) malformed
 
--- How a program says it: going on from a place it has the value a and goes on to the place `next`, unless bytes were malformed.
+-- How a program says it: from a place on p reads a, up to the place `next`; where bytes are malformed `next` is not good, and a says nothing.
 pub record Reads {A : Type 0} (p : ℕ → Parsed A) (from : Place) (a : A) (next : Place) : Type 0 where
   pub is : onward next (read a) ≡ onward from p

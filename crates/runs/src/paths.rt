@@ -3,7 +3,7 @@ ghost use mathlib.Core.Path.{_≡_};
 ghost use Prim.Native.Nat.{_≤_};
 ghost use lib.ListN.{length, replicate};
 ghost use Rattle.runs.specs.Parser.{Reads};
-ghost use Rattle.runs.specs.Curves.{pathPoint, pathPoints, noPathPoint, path, pathRead};
+ghost use Rattle.runs.specs.Curves.{pathPoint, pathPoints, blankPathPoint, path, pathRead};
 use super::fields::Place;
 use super::fields::read_below;
 use super::fields::read_f32;
@@ -56,29 +56,29 @@ fn read_path_point(run: &[u8], from: Place) -> PathPointRead
     }
 }
 
-fn no_path_points() -> [PathPointCodes; MAX_POINTS]
-    ensures { λ r. ⌜ r ≡ replicate 64 noPathPoint ⌝ }
+fn blank_path_points() -> [PathPointCodes; MAX_POINTS]
+    ensures { λ r. ⌜ r ≡ replicate 64 blankPathPoint ⌝ }
 {
-    let no_mod = ModCodes {
+    let blank_mod = ModCodes {
         code: 0,
         bus: 0,
         depth: 0.0,
     };
-    let no_point = PathPointCodes {
+    let blank_point = PathPointCodes {
         x: 0.0,
         y: 0.0,
         bend: 0.0,
-        x_mod: no_mod,
-        y_mod: no_mod,
+        x_mod: blank_mod,
+        y_mod: blank_mod,
     };
-    [no_point; MAX_POINTS]
+    [blank_point; MAX_POINTS]
 }
 
 // Reads `count` points and keeps the first 64.
 fn read_path_points(run: &[u8], from: Place, count: usize) -> PathPointsRead
     ensures { λ r. ⌜ Reads (pathPoints count (now (run .entry))) from (r .value) (r .next) ⌝ }
 {
-    let mut kept = no_path_points();
+    let mut kept = blank_path_points();
     let mut next = from;
     let mut i = 0;
     while i < count {

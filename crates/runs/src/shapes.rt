@@ -3,7 +3,7 @@ ghost use mathlib.Core.Path.{_≡_};
 ghost use Prim.Native.Nat.{_≤_};
 ghost use lib.ListN.{length, replicate};
 ghost use Rattle.runs.specs.Parser.{Reads};
-ghost use Rattle.runs.specs.Curves.{modulation, point, points, noPoint, loopback, shape, shapeRead};
+ghost use Rattle.runs.specs.Curves.{modulation, point, points, blankPoint, loopback, shape, shapeRead};
 use super::fields::Place;
 use super::fields::read_below;
 use super::fields::read_byte_if;
@@ -88,30 +88,30 @@ fn read_point(run: &[u8], from: Place) -> PointRead
     }
 }
 
-fn no_points() -> [PointCodes; MAX_POINTS]
-    ensures { λ r. ⌜ r ≡ replicate 64 noPoint ⌝ }
+fn blank_points() -> [PointCodes; MAX_POINTS]
+    ensures { λ r. ⌜ r ≡ replicate 64 blankPoint ⌝ }
 {
-    let no_mod = ModCodes {
+    let blank_mod = ModCodes {
         code: 0,
         bus: 0,
         depth: 0.0,
     };
-    let no_point = PointCodes {
+    let blank_point = PointCodes {
         x: 0.0,
         y: 0.0,
         curve: 0.0,
         step: 0,
-        x_mod: no_mod,
-        y_mod: no_mod,
+        x_mod: blank_mod,
+        y_mod: blank_mod,
     };
-    [no_point; MAX_POINTS]
+    [blank_point; MAX_POINTS]
 }
 
 // Reads `count` points and keeps the first 64.
 fn read_points(run: &[u8], from: Place, count: usize) -> PointsRead
     ensures { λ r. ⌜ Reads (points count (now (run .entry))) from (r .value) (r .next) ⌝ }
 {
-    let mut kept = no_points();
+    let mut kept = blank_points();
     let mut next = from;
     let mut i = 0;
     while i < count {

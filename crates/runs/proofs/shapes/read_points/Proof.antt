@@ -20,7 +20,7 @@ abbrev μ-loop : tie.MeasureT-loop
 
 loop-holds : tie.Need-loop-holds Inv-loop μ-loop
 unfolding kept
-loop-holds c = rw (c .no-points .ensures) (omega arith, refl, last)
+loop-holds c = rw (c .blank-points .ensures) (omega arith, refl, last)
 
 loop-again : tie.Need-loop-again Inv-loop μ-loop
 loop-again c =
