@@ -38,6 +38,7 @@ mod vectors;
 mod written;
 
 use runs::Wanted;
+use std::path::Path;
 use std::time::Instant;
 use tally::Tally;
 use values::Values;
@@ -56,7 +57,7 @@ const SUBJECTS: [(&str, Compare, u64); 7] = [
 ];
 
 const USAGE: &str = "usage: harness vectors chaos|curves
-       harness vectors runs [without-phase]
+       harness vectors runs DIR
        harness show BYTES
        harness compare SUBJECT|all [COUNT] [SEED]
        harness compare runs [COUNT] [SEED] [FRAMES] [without-phase]
@@ -137,10 +138,10 @@ fn runs(words: &[&str], phase: bool) -> bool {
     runs::compare(ffi::ORACLE, &wanted)
 }
 
-fn stored_runs(phase: bool) -> bool {
+fn stored_runs(dir: &str) -> bool {
     let release = is_release();
     if release {
-        stored::runs(phase);
+        stored::runs(Path::new(dir));
     }
     release
 }
@@ -157,8 +158,7 @@ fn main() {
             vectors::curves();
             true
         }
-        ["vectors", "runs"] => stored_runs(true),
-        ["vectors", "runs", "without-phase"] => stored_runs(false),
+        ["vectors", "runs", dir] => stored_runs(dir),
         ["show", hex] => {
             let bytes = shrunk::unhex(hex).unwrap_or_else(|| usage());
             shrunk::show(&bytes, ffi::ORACLE);

@@ -1,5 +1,5 @@
-//! The runs that a program of the repository replays with no Rust at hand: `harness vectors runs` writes one a line, the bytes of the run and the
-//! bytes that come out, in hexadecimal. Each is made here for what it shows; the answers are the reference's (reference.rs).
+//! The runs that the program `replay` plays with no Rust at hand: `harness vectors runs ../crates/replay` writes its files `stdin`, the runs, and
+//! `stdout`, what comes out. Each run is made here for what it shows; the answers are the reference's (reference.rs).
 use crate::adverse::{Adverse, coefficient, made};
 use crate::figures::{Figures, MAKE};
 use crate::lfo::{Direction, Division, Feel, LfoType, Mode, Rate, Scale, Settings, Span};
@@ -11,6 +11,8 @@ use crate::runs::hex;
 use crate::values::{DIRECTIONS, FEELS, KINDS, MODES, Values};
 use crate::written::{Written, bent, bowed, eighth, hertz, moved, path, point, shape, synced};
 use crate::{refused, spoiled};
+use std::fs;
+use std::path::Path;
 
 type List = Vec<Vec<u8>>;
 
@@ -359,9 +361,9 @@ fn phases(list: &mut List) {
 // ---- what is refused
 
 // Each number that can be the answer to each call, twice.
-fn refusals(list: &mut List, phase: bool) {
+fn refusals(list: &mut List) {
     let mut a = Adverse::new(4);
-    for tag in (0..APPLY.len()).filter(|tag| *tag != 4 || phase) {
+    for tag in 0..APPLY.len() {
         for number in APPLY[tag].iter().filter(|n| **n != 8) {
             for _ in 0..2 {
                 add(list, refusal(&mut a, tag, *number));
@@ -416,10 +418,10 @@ fn malformed(list: &mut List) {
 }
 
 // Adverse runs as they are compared, those that are short.
-fn adverse(list: &mut List, phase: bool) {
+fn adverse(list: &mut List) {
     let mut wanted = 40;
     for seed in 0.. {
-        let m = made(seed, phase);
+        let m = made(seed, true);
         let played = play(&m.bytes, &m.smooths, &mut Figures::default());
         let blocks = played
             .entries
@@ -435,8 +437,48 @@ fn adverse(list: &mut List, phase: bool) {
     }
 }
 
-/// Writes the runs, with phase reads or without.
-pub fn runs(phase: bool) {
+/// A run with the length of the output that it is given.
+struct Stored {
+    bytes: Vec<u8>,
+    room: usize,
+}
+
+impl Stored {
+    /// Both lengths, two bytes each, lower first, and the run.
+    fn stdin(&self) -> Vec<u8> {
+        let length = |n: usize| u16::try_from(n).unwrap().to_le_bytes();
+        [
+            &length(self.bytes.len())[..],
+            &length(self.room)[..],
+            &self.bytes[..],
+        ]
+        .concat()
+    }
+}
+
+/// Every run with just enough room, and of each tenth the same with one byte too few and with half.
+fn with_room(list: &[Vec<u8>], figures: &mut Figures) -> Vec<(Stored, Vec<u8>)> {
+    let mut stored = vec![];
+    for (i, bytes) in list.iter().enumerate() {
+        let played = play(bytes, &[], figures);
+        figures.runs += 1;
+        let all = played.out.len();
+        let rooms = if i % 10 == 0 && all > 1 {
+            vec![all, all - 1, all / 2]
+        } else {
+            vec![all]
+        };
+        for room in rooms {
+            let out = played.out[..played.fits(room)].to_vec();
+            let bytes = bytes.clone();
+            stored.push((Stored { bytes, room }, out));
+        }
+    }
+    stored
+}
+
+/// Writes the two files into `dir`.
+pub fn runs(dir: &Path) {
     let mut list = vec![];
     sheet(&mut list);
     kinds(&mut list);
@@ -448,22 +490,17 @@ pub fn runs(phase: bool) {
     curves(&mut list);
     changes(&mut list);
     evaluations(&mut list);
-    if phase {
-        phases(&mut list);
-    }
-    refusals(&mut list, phase);
+    phases(&mut list);
+    refusals(&mut list);
     malformed(&mut list);
-    adverse(&mut list, phase);
+    adverse(&mut list);
     let mut figures = Figures::default();
-    let mut size = 0;
-    for bytes in &list {
-        let played = play(bytes, &[], &mut figures);
-        assert!(phase || played.entries.iter().all(|e| e.tag != 4));
-        let line = format!("{} {}", hex(bytes), hex(&played.out));
-        size += line.len() + 1;
-        println!("{line}");
-        figures.runs += 1;
-    }
-    eprintln!("{} runs, {size} bytes", list.len());
+    let stored = with_room(&list, &mut figures);
+    let stdin: Vec<u8> = stored.iter().flat_map(|(s, _)| s.stdin()).collect();
+    let stdout: String = stored.iter().map(|(_, out)| hex(out) + "\n").collect();
+    fs::write(dir.join("stdin"), &stdin).unwrap();
+    fs::write(dir.join("stdout"), &stdout).unwrap();
+    let sizes = (stdin.len(), stdout.len());
+    eprintln!("{} runs, {} and {} bytes", stored.len(), sizes.0, sizes.1);
     eprint!("{figures}");
 }

@@ -1,9 +1,9 @@
 -- What playing a block gives, of the equations of what it calls. Assumes nothing.
-use Prim.Native.Nat.{ℕ, _+_, _^_, _≤_, _<_}
+use Prim.Native.Nat.{ℕ, _+_, _^_, _<_}
 use mathlib.Core.Path.{_≡_, refl, sym, subst, _∙_}
-use mathlib.Core.Bool.{Bool, true, false, cond, false≢true}
-use mathlib.Core.List.{List, _++_}
-use lib.ListN.{length, drop}
+use mathlib.Core.Bool.{true, false, false≢true}
+use mathlib.Core.List.{List}
+use lib.ListN.{length}
 use lib.Ieee.{Float}
 use Rattle.settings.specs.declared.record.Transport.{Transport}
 use Rattle.settings.specs.declared.record.TransportCodes.{TransportCodes}
@@ -11,7 +11,6 @@ use Rattle.settings.specs.declared.record.TransportCode.{TransportCode}
 use Rattle.settings.specs.declared.record.TransportCode.the-variants as TransportCode
 use Rattle.settings.specs.Codes.{transportAt}
 use Rattle.clock.specs.declared.free.Clock.{Clock}
-use Rattle.voice.specs.Frame.{Frame}
 use Rattle.bank.specs.declared.parts.Pending.{Pending}
 use Rattle.slot.specs.declared.Lfo.{Lfo}
 use Rattle.slot.specs.declared.Processed.{Processed}
@@ -19,9 +18,8 @@ use Rattle.slot.specs.Slot.{clockedLfo, Ready, Processes}
 use Rattle.questions.specs.declared.RestartCodes.{RestartCodes}
 use Rattle.questions.specs.Questions.{firstNo, blockQuestions}
 use Rattle.questions.proofs.Facts.{BlockAccepted, block-accepted, transport-in}
-use Rattle.calls.specs.State.{State}
 use Rattle.calls.specs.Blocks.{pendingOf, playedState, values, finished}
-use Rattle.calls.specs.Calls.{Call, block, questions, answer, accepts, accepted, step, played, buffer}
+use Rattle.calls.specs.Calls.{Call, block, questions, answer, accepts, accepted, played, buffer}
 use Rattle.player.specs.declared.Player.{Player}
 use Rattle.player.specs.Player.{stateOf, LfoIn, Valid}
 use Rattle.player.specs.Promises.{finishedBy, Plays}
@@ -29,17 +27,7 @@ use Rattle.player.proofs.Answers.{accepts-it, refuses-it, step-accepted
 
 -- with the clock after a block
 clocked-in : (lfo : Lfo) (k : Clock) → LfoIn lfo → LfoIn (clockedLfo lfo k)
-clocked-in lfo k i =
-    record {
-      settings-in = i .settings-in;
-      shape-short = i .shape-short;
-      loopback-in = i .loopback-in;
-      moves = i .moves;
-      path-short = i .path-short;
-      times-up = i .times-up;
-      buses-long = i .buses-long;
-      buses-finite = i .buses-finite;
-    }
+clocked-in lfo k i = record { settings-in = i .settings-in; shape-in = i .shape-in; path-in = i .path-in; buses-in = i .buses-in }
 
 module _ (p : Player) (v : Valid p) (c : TransportCodes) (frames : ℕ) (restart : RestartCodes) (x y : List Float) (a : ℕ)
     (asked : a ≡ firstNo (blockQuestions (p .played) c frames restart (length x) (length y))) where

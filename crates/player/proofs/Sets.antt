@@ -1,18 +1,18 @@
 -- What each setting call gives, of the equations of what it calls. Assumes nothing.
-use Prim.Native.Nat.{ℕ, _^_, _<_, min}
+use Prim.Native.Nat.{ℕ, suc, _<_, min}
 use mathlib.Core.Path.{_≡_, refl, sym, _∙_}
 use mathlib.Core.Bool.{Bool, true, false, cond}
-use mathlib.Core.List.{List}
+use mathlib.Core.List.{List, _∷_, _++_}
 use native.Mathlib.Nat.{min-le-right}
 use native.Mathlib.Omega.{arith}
 use borrow.Author.Tests.{ltb-true}
-use lib.Dec.{ltb}
-use lib.ListN.{getD, set, length}
+use lib.Dec.{T, ltb}
+use lib.ListN.{getD, set, take, drop}
 use lib.Seq.{set-split}
 use lib.Ieee.{Float, nan, eq}
+use lib.Ieee.Scale.{finite}
 use Rattle.floatlaws.specs.Numbers.{f32-0}
 use Rattle.listlaws.specs.Tables.{padded}
-use Rattle.points.specs.Modulation.{FiniteBuses}
 use Rattle.shape.specs.declared.Loopback.{Loopback}
 use Rattle.shape.specs.declared.Loopback.the-variants as Loopback
 use Rattle.shape.specs.declared.Shape.{Shape}
@@ -25,7 +25,6 @@ use Rattle.settings.specs.declared.record.SettingsCodes.{SettingsCodes}
 use Rattle.settings.specs.declared.record.SettingsCode.the-variants as SettingsCode
 use Rattle.settings.specs.Codes.{settingsAt}
 use Rattle.settings.specs.Records.{clampedSettings}
-use Rattle.slot.specs.declared.Lfo.{Lfo}
 use Rattle.slot.specs.Moved.{LoopbackIn}
 use Rattle.slot.proofs.Curves.{accepted-path}
 use Rattle.curves.specs.declared.PointCodes.{PointCodes}
@@ -37,10 +36,21 @@ use Rattle.questions.proofs.Facts.{settings-in, ShapeAccepted, shape-accepted, 
 use Rattle.calls.specs.State.{withSettings, withShape, withPath, withBus, movedBuses}
 use Rattle.calls.specs.Calls.{settings, shape, path, bus, questions, answer, accepted}
 use Rattle.player.specs.declared.Player.{Player}
-use Rattle.player.specs.Player.{stateOf, editedPlayer, LfoIn, Valid}
+use Rattle.player.specs.Player.{stateOf, editedPlayer, StoredIn, ShapeIn, PathIn, BusesIn, Valid}
 use Rattle.player.specs.Promises.{Changes}
 use Rattle.player.proofs.Answers.{refused, changed}
-use Rattle.player.proofs.Players.{edited-valid, settings-edited, shape-edited, path-edited, bus-edited}
+use Rattle.player.proofs.Players.{clamped-in, edited-valid, bus-in}
+
+-- a player with other settings, curves and buses
+module _ (p : Player) where
+  abbrev edited : Settings → Shape → Path → List Float → Player
+  edited s drawn way values = editedPlayer p (record { settings = s; shape = drawn; path = way; buses = values; clock = p .slot .lfo .clock })
+
+  edited-in : Valid p → (s : Settings) (drawn : Shape) (way : Path) (values : List Float) → StoredIn s → ShapeIn drawn → PathIn way → BusesIn values
+      → Valid (edited s drawn way values)
+  edited-in v s drawn way values i j k l =
+      edited-valid p (record { settings = s; shape = drawn; path = way; buses = values; clock = p .slot .lfo .clock }) v
+      (record { settings-in = i; shape-in = j; path-in = k; buses-in = l })
 
 -- ---- settings
 
@@ -57,14 +67,15 @@ module _ (p : Player) (v : Valid p) (c : SettingsCodes) (a : ℕ) (asked : a ≡
   settings-unknown e u = changed p (settings c) a settings-put e p (unfold accepted in rw u) v
 
   abbrev bySettings : Settings → Player
-  bySettings s = editedPlayer p (let l = p .slot .lfo in record { settings = s; shape = l .shape; path = l .path; buses = l .buses; clock = l .clock })
+  bySettings s = let l = p .slot .lfo in edited p s (l .shape) (l .path) (l .buses)
 
-  pub settings-set : a ≡ 0 → (s stored : Settings) → settingsAt c ≡ SettingsCode.Known s → stored ≡ clampedSettings s → (r : Player) → r ≡ bySettings stored
-      → Changes p (settings c) (record { answer = a; player = r })
+  pub settings-set : a ≡ 0 → (s stored : Settings) → settingsAt c ≡ SettingsCode.Known s → stored ≡ clampedSettings s
+      → (r : Player) → r ≡ bySettings stored → Changes p (settings c) (record { answer = a; player = r })
   settings-set e s stored known is r made =
+      let i = v .lfo-in in
       rw (made, is)
       (changed p (settings c) a settings-put e (bySettings (clampedSettings s)) (unfold accepted withSettings in rw known)
-      (edited-valid p _ v refl (settings-edited (p .slot .lfo) (v .lfo-in) s (settings-in c (sym asked ∙ e) s known))))
+      (edited-in p v _ _ _ _ (clamped-in s (settings-in c (sym asked ∙ e) s known)) (i .shape-in) (i .path-in) (i .buses-in)))
 
 -- ---- a shape
 
@@ -80,6 +91,9 @@ within-in (Loopback.At i) n = go (ltb i n) refl
 
 module _ (p : Player) (v : Valid p) (points : List PointCodes) (count : ℕ) (loopback : LoopbackCodes) (strengths : List Float) (a : ℕ)
     (asked : a ≡ firstNo (shapeQuestions true points count loopback strengths)) where
+  abbrev given : Shape
+  given = givenShape points count loopback strengths
+
   shape-put : a ≡ answer (stateOf p) (shape points count loopback strengths)
   unfolding answer questions
   shape-put = asked
@@ -90,24 +104,33 @@ module _ (p : Player) (v : Valid p) (points : List PointCodes) (count : ℕ) (lo
   pub shape-facts : a ≡ 0 → ShapeAccepted true points count loopback strengths
   shape-facts e = shape-accepted true points count loopback strengths (sym asked ∙ e)
 
-  abbrev byShape : Shape → Player
-  byShape s = editedPlayer p (let l = p .slot .lfo in record { settings = l .settings; shape = s; path = l .path; buses = l .buses; clock = l .clock })
-
-  given-in : a ≡ 0 → LfoIn (byShape (givenShape points count loopback strengths) .slot .lfo)
+  given-in : a ≡ 0 → ShapeIn given
   unfolding givenShape shapeOf
   given-in e =
-      shape-edited (p .slot .lfo) (v .lfo-in) (givenShape points count loopback strengths) (min-le-right count 64) (within-in (loopbackOf loopback) (min count 64))
-      (λ (buses : List Float) (values : FiniteBuses buses). accepted-x (givenPoints points strengths (min count 64)) (min count 64) (shape-facts e .points-finite) buses values)
+      record {
+        short = min-le-right count 64;
+        loopback-in = within-in (loopbackOf loopback) (min count 64);
+        moves = accepted-x (givenPoints points strengths (min count 64)) (min count 64) (shape-facts e .points-finite);
+      }
 
-  pub shape-set : a ≡ 0 → (s : Shape) → s ≡ givenShape points count loopback strengths → (r : Player) → r ≡ byShape s
+  abbrev byShape : Shape → Player
+  byShape s = let l = p .slot .lfo in edited p (l .settings) s (l .path) (l .buses)
+
+  pub shape-set : a ≡ 0 → (s : Shape) → s ≡ given → (r : Player) → r ≡ byShape s
       → Changes p (shape points count loopback strengths) (record { answer = a; player = r })
   shape-set e s is r made =
-      rw (made, is) (changed p _ a shape-put e (byShape (givenShape points count loopback strengths)) (unfold accepted withShape in refl) (edited-valid p _ v refl (given-in e)))
+      let i = v .lfo-in in
+      rw (made, is)
+      (changed p _ a shape-put e (byShape given) (unfold accepted withShape in refl)
+      (edited-in p v _ _ _ _ (i .settings-in) (given-in e) (i .path-in) (i .buses-in)))
 
 -- ---- a path
 
 module _ (p : Player) (v : Valid p) (points : List PathPointCodes) (count closed : ℕ) (legs : List Float) (a : ℕ)
     (asked : a ≡ firstNo (pathQuestions true points count closed legs)) where
+  abbrev travelled : Path
+  travelled = givenPath points count closed legs
+
   path-put : a ≡ answer (stateOf p) (path points count closed legs)
   unfolding answer questions
   path-put = asked
@@ -118,23 +141,30 @@ module _ (p : Player) (v : Valid p) (points : List PathPointCodes) (count closed
   pub path-facts : a ≡ 0 → PathAccepted true count closed legs
   path-facts e = path-accepted true points count closed legs (sym asked ∙ e)
 
-  abbrev byPath : Path → Player
-  byPath s = editedPlayer p (let l = p .slot .lfo in record { settings = l .settings; shape = l .shape; path = s; buses = l .buses; clock = l .clock })
-
-  travelled-in : a ≡ 0 → LfoIn (byPath (givenPath points count closed legs) .slot .lfo)
+  travelled-in : a ≡ 0 → PathIn travelled
   unfolding givenPath pathOf
   travelled-in e =
-      path-edited (p .slot .lfo) (v .lfo-in) (givenPath points count closed legs) (min-le-right count 64)
-      (accepted-path (givenPathPoints points (min count 64)) count (isYes closed) (padded 64 f32-0 legs) (path-facts e .legs-in))
+      record {
+        short = min-le-right count 64;
+        times-up = accepted-path (givenPathPoints points (min count 64)) count (isYes closed) (padded 64 f32-0 legs) (path-facts e .legs-in);
+      }
 
-  pub path-set : a ≡ 0 → (s : Path) → s ≡ givenPath points count closed legs → (r : Player) → r ≡ byPath s
-      → Changes p (path points count closed legs) (record { answer = a; player = r })
+  abbrev byPath : Path → Player
+  byPath s = let l = p .slot .lfo in edited p (l .settings) (l .shape) s (l .buses)
+
+  pub path-set : a ≡ 0 → (s : Path) → s ≡ travelled → (r : Player) → r ≡ byPath s → Changes p (path points count closed legs) (record { answer = a; player = r })
   path-set e s is r made =
-      rw (made, is) (changed p _ a path-put e (byPath (givenPath points count closed legs)) (unfold accepted withPath in refl) (edited-valid p _ v refl (travelled-in e)))
+      let i = v .lfo-in in
+      rw (made, is)
+      (changed p _ a path-put e (byPath travelled) (unfold accepted withPath in refl)
+      (edited-in p v _ _ _ _ (i .settings-in) (i .shape-in) (travelled-in e) (i .buses-in)))
 
 -- ---- a bus
 
 module _ (p : Player) (v : Valid p) (k : ℕ) (value : Float) (a : ℕ) (asked : a ≡ firstNo (busQuestions k value)) where
+  abbrev buses : List Float
+  buses = p .slot .lfo .buses
+
   bus-put : a ≡ answer (stateOf p) (bus k value)
   unfolding answer questions
   bus-put = asked
@@ -143,21 +173,24 @@ module _ (p : Player) (v : Valid p) (k : ℕ) (value : Float) (a : ℕ) (asked :
   bus-refused e = refused p _ a bus-put e v
 
   module _ (e : a ≡ 0) where
+    bus-facts : T (finite value) × (k < 16)
+    bus-facts = bus-accepted k value (sym asked ∙ e)
+
     pub bus-few : k < 16
-    bus-few = bus-accepted k value (sym asked ∙ e) .1
+    bus-few = bus-facts .1
 
-    bus-below : k < length (p .slot .lfo .buses)
-    bus-below = omega (arith, bus-few, v .lfo-in .buses-long)
-
-    pub bus-same : eq (getD (p .slot .lfo .buses) k nan) value ≡ true → Changes p (bus k value) (record { answer = a; player = p })
+    pub bus-same : eq (getD buses k nan) value ≡ true → Changes p (bus k value) (record { answer = a; player = p })
     bus-same same = changed p _ a bus-put e p (unfold accepted withBus movedBuses in rw same) v
 
-    abbrev byBuses : List Float → Player
-    byBuses s = editedPlayer p (let l = p .slot .lfo in record { settings = l .settings; shape = l .shape; path = l .path; buses = s; clock = l .clock })
+    bus-split : set buses k value ≡ take k buses ++ value ∷ drop (suc k) buses
+    bus-split = set-split buses k value (omega (arith, bus-few, v .lfo-in .buses-in .long))
 
-    pub bus-set : eq (getD (p .slot .lfo .buses) k nan) value ≡ false → (r : Player) → r ≡ byBuses (set (p .slot .lfo .buses) k value)
-        → Changes p (bus k value) (record { answer = a; player = r })
+    abbrev byBuses : List Float → Player
+    byBuses s = let l = p .slot .lfo in edited p (l .settings) (l .shape) (l .path) s
+
+    pub bus-set : eq (getD buses k nan) value ≡ false → (r : Player) → r ≡ byBuses (set buses k value) → Changes p (bus k value) (record { answer = a; player = r })
     bus-set other r made =
+        let i = v .lfo-in in
         rw made
-        (changed p _ a bus-put e (byBuses (set (p .slot .lfo .buses) k value)) (unfold accepted withBus movedBuses in rw (other, set-split (p .slot .lfo .buses) k value bus-below))
-        (edited-valid p _ v refl (bus-edited (p .slot .lfo) (v .lfo-in) k value bus-few (bus-accepted k value (sym asked ∙ e) .0))))
+        (changed p _ a bus-put e (byBuses (set buses k value)) (unfold accepted withBus movedBuses in rw (other, bus-split))
+        (edited-in p v _ _ _ _ (i .settings-in) (i .shape-in) (i .path-in) (bus-in buses k value (i .buses-in) bus-few (bus-facts .0))))

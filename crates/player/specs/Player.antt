@@ -1,4 +1,4 @@
--- A player: as the rules see it, with its curves and buses edited, and what holds of every one. Assumes nothing.
+-- A player: as the rules see it, as an edit leaves it, and what holds of every one. Assumes nothing.
 use Prim.Native.Nat.{_^_, _≤_, _<_}
 use mathlib.Core.Path.{_≡_}
 use mathlib.Core.Bool.{false}
@@ -6,7 +6,10 @@ use mathlib.Core.List.{List}
 use lib.ListN.{length}
 use lib.Ieee.{Float}
 use Rattle.points.specs.Modulation.{FiniteBuses}
+use Rattle.shape.specs.declared.Shape.{Shape}
 use Rattle.shape.proofs.Modulation.{NumbersX}
+use Rattle.path.specs.declared.Path.{Path}
+use Rattle.settings.specs.declared.record.Settings.{Settings}
 use Rattle.reach.specs.Bounds.{SettingsIn}
 use Rattle.slot.specs.declared.Lfo.{Lfo}
 use Rattle.slot.specs.Moved.{LoopbackIn}
@@ -19,7 +22,7 @@ use Rattle.player.specs.declared.Player.{Player}
 abbrev pub stateOf : Player → State
 stateOf p = record { lfo = p .slot .lfo; voice = p .slot .voice; played = p .played }
 
--- with other settings, curves or buses, and a cache that is void
+-- with another LFO, and a cache that is void
 abbrev pub editedPlayer : Player → Lfo → Player
 editedPlayer p lfo =
     record {
@@ -29,18 +32,29 @@ editedPlayer p lfo =
 
 -- ---- what holds of every player: `make` ensures it, and every other call keeps it
 
--- of its settings, curves and buses
+-- of its settings, whose grid is a u16
+abbrev pub StoredIn : Settings → Type 0
+StoredIn s = s .«grid_x» < 2 ^ 16 → SettingsIn s
+
+pub record ShapeIn (shape : Shape) : Type 0 where
+  pub short : shape .len ≤ 64
+  pub loopback-in : LoopbackIn (shape .loopback) (shape .len)
+  -- wherever the buses move its points, their x are numbers
+  pub moves : (buses : List Float) → FiniteBuses buses → NumbersX (shape .points) buses (shape .len)
+
+pub record PathIn (path : Path) : Type 0 where
+  pub short : path .len ≤ 64
+  pub times-up : PathUp path
+
+pub record BusesIn (buses : List Float) : Type 0 where
+  pub long : length buses ≡ 16
+  pub finite-all : FiniteBuses buses
+
 pub record LfoIn (lfo : Lfo) : Type 0 where
-  -- the grid is a u16
-  pub settings-in : lfo .settings .«grid_x» < 2 ^ 16 → SettingsIn (lfo .settings)
-  pub shape-short : lfo .shape .len ≤ 64
-  pub loopback-in : LoopbackIn (lfo .shape .loopback) (lfo .shape .len)
-  -- wherever the buses may move its points, their x are numbers
-  pub moves : (buses : List Float) → FiniteBuses buses → NumbersX (lfo .shape .points) buses (lfo .shape .len)
-  pub path-short : lfo .path .len ≤ 64
-  pub times-up : PathUp (lfo .path)
-  pub buses-long : length (lfo .buses) ≡ 16
-  pub buses-finite : FiniteBuses (lfo .buses)
+  pub settings-in : StoredIn (lfo .settings)
+  pub shape-in : ShapeIn (lfo .shape)
+  pub path-in : PathIn (lfo .path)
+  pub buses-in : BusesIn (lfo .buses)
 
 pub record Valid (p : Player) : Type 0 where
   pub within : p .played ≤ 2 ^ 40

@@ -48,7 +48,8 @@ pub record Changes (p : Player) (c : Call) (r : Changed) : Type 0 where
 
 -- a block that is refused says 0
 unfoldable pub finishedBy : State → TransportCodes → ℕ → RestartCodes → List Float → List Float → Bool
-finishedBy p c frames restart x y = cond (accepts p (block c frames restart x y)) (byTransport false (transportAt c) λ t. finished p t frames (pendingOf restart)) false
+finishedBy p c frames restart x y =
+    cond (accepts p (block c frames restart x y)) (byTransport false (transportAt c) λ t. finished p t frames (pendingOf restart)) false
 
 pub record Plays (p : Player) (t : TransportCodes) (frames : ℕ) (restart : RestartCodes) (x y : List Float) (r : Played) (x′ y′ : List Float) : Type 0 where
   pub answer-is : r .answer ≡ answer (stateOf p) (block t frames restart x y)

@@ -48,4 +48,6 @@ returns-3 c =
     bus-set _ (q .before .pre) _ _ _ (q .bus-answer .ensures) (i .if1 .left) (t .if2 .left) _ (c .edited .ensures)
 
 pub set-bus-spec : {M : Type 1} → statement M
-set-bus-spec = tie.close (tie.spec (λ c κs. search needs) returns mul-if2 array-read-if2 returns-2 mul-buses array-write-buses (λ c κs. search needs) returns-3)
+set-bus-spec =
+    tie.close
+    (tie.spec (λ c κs. search needs) returns mul-if2 array-read-if2 returns-2 mul-buses array-write-buses (λ c κs. search needs) returns-3)

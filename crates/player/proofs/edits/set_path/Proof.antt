@@ -14,7 +14,8 @@ path-of-requires : tie.Need-path-of-requires
 path-of-requires c κs =
     let q = c .before in
     let s = q .before .before in
-    path-facts (s .args .p) (s .pre) (s .args .points) (s .args .count) (s .args .closed) (s .args .legs .now) _ (q .path-answer .ensures) (c .if1 .left) .legs-short
+    let a = s .args in
+    path-facts (a .p) (s .pre) (a .points) (a .count) (a .closed) (a .legs .now) _ (q .path-answer .ensures) (c .if1 .left) .legs-short
 
 returns-2 : tie.Need-returns-2
 returns-2 c =

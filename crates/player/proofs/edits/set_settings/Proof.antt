@@ -22,8 +22,8 @@ returns-3 c =
     let k = l .before .before in
     let f = k .before .before in
     let q = f .before .before in
-    settings-set _ (q .before .pre) _ _ (q .settings-answer .ensures) (f .before .if1 .left) _ _ (sym (f .from-codes .ensures) ∙ k .s .given .1) (l .clamped .ensures) _
-    (c .edited .ensures)
+    let known = sym (f .from-codes .ensures) ∙ k .s .given .1 in
+    settings-set _ (q .before .pre) _ _ (q .settings-answer .ensures) (f .before .if1 .left) _ _ known (l .clamped .ensures) _ (c .edited .ensures)
 
 pub set-settings-spec : {M : Type 1} → statement M
 set-settings-spec =

@@ -15,10 +15,8 @@ shape-of-requires : tie.Need-shape-of-requires
 shape-of-requires c κs =
     let q = c .before in
     let s = q .before .before in
-    omega (
-      arith,
-      shape-facts (s .args .p) (s .pre) (s .args .points) (s .args .count) (s .args .loopback) (s .args .strengths .now) _ (q .shape-answer .ensures) (c .if1 .left) .length-is,
-    )
+    let a = s .args in
+    omega (arith, shape-facts (a .p) (s .pre) (a .points) (a .count) (a .loopback) (a .strengths .now) _ (q .shape-answer .ensures) (c .if1 .left) .length-is)
 
 returns-2 : tie.Need-returns-2
 returns-2 c =

@@ -24,7 +24,9 @@ add-played c =
     let i = c .before .before .before .before .before in
     let q = i .before in
     let s = q .before .before .before in
-    record { fits = omega (arith, facts (s .args .p) (s .pre) (s .args .t) (s .args .frames) (s .args .restart) (s .args .x .now) (s .args .y .now) _ (q .block-answer .ensures) (i .if1 .left) .within-life) }
+    let a = s .args in
+    let accepted = facts (a .p) (s .pre) (a .t) (a .frames) (a .restart) (a .x .now) (a .y .now) _ (q .block-answer .ensures) (i .if1 .left) in
+    record { fits = omega (arith, accepted .within-life) }
 
 process-requires : tie.Need-process-requires
 process-requires c κs =
@@ -33,7 +35,10 @@ process-requires c κs =
     let f = k .before .before in
     let q = f .before .before in
     let s = q .before .before .before in
-    block-ready _ (s .pre) _ _ _ _ _ _ (q .block-answer .ensures) (f .before .if1 .left) _ (sym (f .from-codes .ensures) ∙ k .transport .given .1) (w .struct-known .given .0 .0 .0 .1 .1 .1 .1 .1 .1 .1 .1 .1 .1 .1 .0 .fits)
+    let known = sym (f .from-codes .ensures) ∙ k .transport .given .1 in
+    -- the last field of the settings is a u16
+    let grid = w .struct-known .given .0 .0 .0 .1 .1 .1 .1 .1 .1 .1 .1 .1 .1 .1 .0 .fits in
+    block-ready _ (s .pre) _ _ _ _ _ _ (q .block-answer .ensures) (f .before .if1 .left) _ known grid
 
 returns-3 : tie.Need-returns-3
 returns-3 c =
@@ -44,7 +49,8 @@ returns-3 c =
     let f = k .before .before in
     let q = f .before .before in
     let s = q .before .before .before in
-    block-played _ (s .pre) _ _ _ _ _ _ (q .block-answer .ensures) (f .before .if1 .left) _ (sym (f .from-codes .ensures) ∙ k .transport .given .1) _ _ _ _ (a .pending .ensures) (r .process .ensures)
+    let known = sym (f .from-codes .ensures) ∙ k .transport .given .1 in
+    block-played _ (s .pre) _ _ _ _ _ _ (q .block-answer .ensures) (f .before .if1 .left) _ known _ _ _ _ (a .pending .ensures) (r .process .ensures)
 
 pub play-spec : {M : Type 1} → statement M
 play-spec =
