@@ -65,7 +65,7 @@ post-same smooth g t raw c d (inr e) = rw e refl
 -- the second output, of its states c and d before a sample
 module _ (smooth : Smooth) (g : Float) (t : Bool) (raw : Float) (c d : Channel) where
   abbrev second : LfoType → Channel → Channel
-  second kind z = secondOf kind (postOf smooth g t raw z) z
+  second kind z = secondOf kind smooth g t raw z
 
   second-value : (kind : LfoType) → (kind ≡ Path → Started t c d) → secondValue kind raw (second kind c) ≡ secondValue kind raw (second kind d)
   unfolding secondValue secondOf
