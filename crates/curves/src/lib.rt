@@ -1,6 +1,19 @@
 // A shape and a path as a call hands them in: points as codes and numbers, with the strengths of their bends and the lengths of their legs.
+use path::Path;
+use path::PathPoint;
 use points::MAX_POINTS;
+use points::PointMod;
+use shape::Loopback;
+use shape::Point;
+use shape::Shape;
 ghost use mathlib.Core.Path.{_≡_};
+ghost use Prim.Native.Nat.{_≤_, min};
+ghost use lib.ListN.{length, replicate};
+ghost use Rattle.floatlaws.specs.Numbers.{f32-0};
+ghost use Rattle.listlaws.specs.Tables.{padded};
+ghost use Rattle.shape.specs.Points.{blank};
+ghost use Rattle.path.specs.Paths.{blankPath};
+ghost use Rattle.curves.specs.Given.{isYes, modOf, pointOf, givenPoints, loopbackOf, givenShape, pathPointOf, givenPathPoints, givenPath};
 
 // A point-modulation input as a code, 0 where it is absent and 1 where it is present, and its fields.
 pub struct ModCodes {
@@ -32,4 +45,168 @@ pub struct PathPointCodes {
 pub struct LoopbackCodes {
     pub code: u64,
     pub index: u64,
+}
+
+// Whether a yes or no is a yes.
+fn is_yes(code: u64) -> bool
+    ensures { λ r. ⌜ r ≡ isYes code ⌝ }
+{
+    code == 1
+}
+
+fn mod_of(c: ModCodes) -> PointMod
+    ensures { λ r. ⌜ r ≡ modOf c ⌝ }
+{
+    if c.code == 1 {
+        PointMod::Bus {
+            bus: c.bus,
+            depth: c.depth,
+        }
+    } else {
+        PointMod::None
+    }
+}
+
+// ---- a shape
+
+// A point with the strength of the bend after it.
+fn point_of(c: PointCodes, strength: f32) -> Point
+    ensures { λ r. ⌜ r ≡ pointOf c strength ⌝ }
+{
+    let x_codes = c.x_mod;
+    let y_codes = c.y_mod;
+    let step = is_yes(c.step);
+    let x_mod = mod_of(x_codes);
+    let y_mod = mod_of(y_codes);
+    Point {
+        x: c.x,
+        y: c.y,
+        curve: c.curve,
+        strength,
+        step,
+        x_mod,
+        y_mod,
+    }
+}
+
+// An array of points at 0, 0.
+fn blank_points() -> [Point; MAX_POINTS]
+    ensures { λ r. ⌜ r ≡ replicate 64 blank ⌝ }
+{
+    let blank = Point::new(0.0, 0.0);
+    [blank; MAX_POINTS]
+}
+
+// The first `n` points, each with its strength. Blank points follow.
+fn given_points(
+    points: [PointCodes; MAX_POINTS],
+    strengths: &[f32],
+    n: usize,
+) -> [Point; MAX_POINTS]
+    requires { ⌜ (n ≤ 64) × (n ≤ length (now strengths)) ⌝ }
+    ensures { λ r. ⌜ r ≡ givenPoints points (now (strengths .entry)) n ⌝ }
+{
+    let mut out = blank_points();
+    let mut i = 0;
+    while i < n {
+        let c = points[i];
+        out[i] = point_of(c, strengths[i]);
+        i += 1;
+    }
+    out
+}
+
+fn loopback_of(c: LoopbackCodes) -> Loopback
+    ensures { λ r. ⌜ r ≡ loopbackOf c ⌝ }
+{
+    if c.code == 1 {
+        Loopback::At(c.index as usize)
+    } else {
+        Loopback::None
+    }
+}
+
+// A shape of `count` points: the first 64 of them, `points` begins with those, and `strengths` has one for each.
+pub fn shape_of(
+    points: [PointCodes; MAX_POINTS],
+    count: usize,
+    loopback: LoopbackCodes,
+    strengths: &[f32],
+) -> Shape
+    requires { ⌜ min count 64 ≤ length (now strengths) ⌝ }
+    ensures { λ r. ⌜ (r ≡ givenShape points count loopback (now (strengths .entry))) × (r .len ≤ 64) ⌝ }
+{
+    let given = given_points(points, strengths, points::kept(count));
+    let at = loopback_of(loopback);
+    Shape::new(given, count).set_loopback(at)
+}
+
+// ---- a path
+
+fn path_point_of(c: PathPointCodes) -> PathPoint
+    ensures { λ r. ⌜ r ≡ pathPointOf c ⌝ }
+{
+    let x_codes = c.x_mod;
+    let y_codes = c.y_mod;
+    let x_mod = mod_of(x_codes);
+    let y_mod = mod_of(y_codes);
+    PathPoint {
+        x: c.x,
+        y: c.y,
+        bend: c.bend,
+        x_mod,
+        y_mod,
+    }
+}
+
+// An array of points at 0, 0.
+fn blank_path() -> [PathPoint; MAX_POINTS]
+    ensures { λ r. ⌜ r ≡ blankPath ⌝ }
+{
+    let blank = PathPoint::new(0.0, 0.0);
+    [blank; MAX_POINTS]
+}
+
+// The first `n` points. Blank points follow.
+fn given_path_points(points: [PathPointCodes; MAX_POINTS], n: usize) -> [PathPoint; MAX_POINTS]
+    requires { ⌜ n ≤ 64 ⌝ }
+    ensures { λ r. ⌜ r ≡ givenPathPoints points n ⌝ }
+{
+    let mut out = blank_path();
+    let mut i = 0;
+    while i < n {
+        let c = points[i];
+        out[i] = path_point_of(c);
+        i += 1;
+    }
+    out
+}
+
+// The legs in an array. Zeros follow.
+fn given_legs(legs: &[f32]) -> [f32; MAX_POINTS]
+    requires { ⌜ length (now legs) ≤ 64 ⌝ }
+    ensures { λ r. ⌜ r ≡ padded 64 f32-0 (now (legs .entry)) ⌝ }
+{
+    let mut out = [0.0f32; MAX_POINTS];
+    let mut i = 0;
+    while i < legs.len() {
+        out[i] = legs[i];
+        i += 1;
+    }
+    out
+}
+
+// A path of `count` points: the first 64 of them, `points` begins with those, and `legs` are the lengths of its segments.
+pub fn path_of(
+    points: [PathPointCodes; MAX_POINTS],
+    count: usize,
+    closed: u64,
+    legs: &[f32],
+) -> Path
+    requires { ⌜ length (now legs) ≤ 64 ⌝ }
+    ensures { λ r. ⌜ (r ≡ givenPath points count closed (now (legs .entry))) × (r .len ≤ 64) ⌝ }
+{
+    let given = given_path_points(points, points::kept(count));
+    let lengths = given_legs(legs);
+    Path::new(given, count, is_yes(closed), &lengths)
 }
