@@ -1,0 +1,58 @@
+// The calls that evaluate a shape and a path (document 01), unmodulated, as an editor draws them. They touch no player.
+use curves::LoopbackCodes;
+use curves::PathPointCodes;
+use curves::PointCodes;
+use points::MAX_POINTS;
+ghost use mathlib.Core.Path.{_≡_};
+ghost use Rattle.evaluate.specs.Values.{evaluatedShape, evaluatedPath};
+
+// The number of the question that refused the call, or the value of a shape.
+pub enum Value {
+    Refused(u8),
+    At(f32),
+}
+
+// The number of the question that refused the call, or X and Y of a path.
+pub enum Place {
+    Refused(u8),
+    At { x: f32, y: f32 },
+}
+
+// The value at `x` of a shape of `count` points, of which `points` begins with the first 64.
+pub fn evaluate_shape(
+    points: [PointCodes; MAX_POINTS],
+    count: usize,
+    loopback: LoopbackCodes,
+    strengths: &[f32],
+    x: f32,
+) -> Value
+    ensures { λ r. ⌜ r ≡ evaluatedShape points count loopback (now (strengths .entry)) x ⌝ }
+{
+    let others = questions::is_finite_f32(x);
+    let answer = questions::shape_answer(others, points, count, loopback, strengths);
+    if answer != 0 {
+        return Value::Refused(answer);
+    }
+    let s = curves::shape_of(points, count, loopback, strengths);
+    Value::At(s.value(x))
+}
+
+// X and Y at the time `t` of a path of `count` points, of which `points` begins with the first 64.
+pub fn evaluate_path(
+    points: [PathPointCodes; MAX_POINTS],
+    count: usize,
+    closed: u64,
+    legs: &[f32],
+    t: f32,
+) -> Place
+    ensures { λ r. ⌜ r ≡ evaluatedPath points count closed (now (legs .entry)) t ⌝ }
+{
+    let others = questions::is_finite_f32(t);
+    let answer = questions::path_answer(others, points, count, closed, legs);
+    if answer != 0 {
+        return Place::Refused(answer);
+    }
+    let p = curves::path_of(points, count, closed, legs);
+    let v = p.value(t);
+    Place::At { x: v.x, y: v.y }
+}

@@ -1,0 +1,5 @@
+pub mod Answers
+pub mod Players
+pub mod Makings
+pub mod Sets
+pub mod Blocks

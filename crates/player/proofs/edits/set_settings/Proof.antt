@@ -1,0 +1,40 @@
+-- `set_settings` meets its contract. Assumes nothing.
+use mathlib.Core.Path.{sym, _∙_}
+use borrow.Author.Needs.{needs}
+use Rattle.player.proofs.Sets.{settings-refused, settings-unknown, settings-set}
+use Rattle.player.proofs.edits.set_settings.Statement.{statement}
+use Rattle.player.proofs.edits.set_settings.Tie as tie
+
+returns : tie.Need-returns
+returns c =
+    let q = c .before in
+    settings-refused _ (q .before .pre) _ _ (q .settings-answer .ensures) (c .if1 .taken)
+
+returns-2 : tie.Need-returns-2
+returns-2 c =
+    let f = c .before .before in
+    let q = f .before .before in
+    settings-unknown _ (q .before .pre) _ _ (q .settings-answer .ensures) (f .before .if1 .left) (sym (f .from-codes .ensures) ∙ c .enum-told .given .1)
+
+returns-3 : tie.Need-returns-3
+returns-3 c =
+    let l = c .before .before .before in
+    let k = l .before .before in
+    let f = k .before .before in
+    let q = f .before .before in
+    settings-set _ (q .before .pre) _ _ (q .settings-answer .ensures) (f .before .if1 .left) _ _ (sym (f .from-codes .ensures) ∙ k .s .given .1) (l .clamped .ensures) _
+    (c .edited .ensures)
+
+pub set-settings-spec : {M : Type 1} → statement M
+set-settings-spec =
+    tie.close
+    (tie.spec
+    (λ c κs. search needs)
+    returns
+    (λ c κs. search needs)
+    (λ c. search needs)
+    (λ c. search needs)
+    returns-2
+    (λ c κs. search needs)
+    (λ c κs. search needs)
+    returns-3)

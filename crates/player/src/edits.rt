@@ -1,0 +1,118 @@
+// Setting a player's settings, shape, path and buses.
+use super::Changed;
+use super::Player;
+use curves::LoopbackCodes;
+use curves::PathPointCodes;
+use curves::PointCodes;
+use points::MAX_POINTS;
+use settings::Settings;
+use settings::SettingsCode;
+use settings::SettingsCodes;
+use slot::Lfo;
+ghost use mathlib.Core.Path.{_≡_};
+ghost use Rattle.calls.specs.Calls as call;
+ghost use Rattle.player.specs.Player.{editedPlayer, Valid};
+ghost use Rattle.player.specs.Promises.{Changes};
+
+// The player with another LFO. The points as moved and the segments kept are void.
+fn edited(p: Player, lfo: Lfo) -> Player
+    ensures { λ r. ⌜ r ≡ editedPlayer p lfo ⌝ }
+{
+    let mut slot = p.slot;
+    let mut cache = slot.cache;
+    cache.fresh = false;
+    slot.lfo = lfo;
+    slot.cache = cache;
+    Player {
+        slot,
+        played: p.played,
+    }
+}
+
+// Sets the settings, each number in its range.
+pub fn set_settings(p: Player, c: SettingsCodes) -> Changed
+    requires { ⌜ Valid p ⌝ }
+    ensures { λ r. ⌜ Changes p (call.settings c) r ⌝ }
+{
+    let answer = questions::settings_answer(c);
+    if answer != 0 {
+        return Changed { answer, player: p };
+    }
+    let SettingsCode::Known(s) = Settings::from_codes(c) else {
+        return Changed { answer, player: p };
+    };
+    let settings = s.clamped();
+    let slot = p.slot;
+    let mut lfo = slot.lfo;
+    lfo.settings = settings;
+    let player = edited(p, lfo);
+    Changed { answer, player }
+}
+
+// Sets the shape: the first 64 of `count` points, their strengths and the loopback point.
+pub fn set_shape(
+    p: Player,
+    points: [PointCodes; MAX_POINTS],
+    count: usize,
+    loopback: LoopbackCodes,
+    strengths: &[f32],
+) -> Changed
+    requires { ⌜ Valid p ⌝ }
+    ensures { λ r. ⌜ Changes p (call.shape points count loopback (now (strengths .entry))) r ⌝ }
+{
+    let answer = questions::shape_answer(true, points, count, loopback, strengths);
+    if answer != 0 {
+        return Changed { answer, player: p };
+    }
+    let shape = curves::shape_of(points, count, loopback, strengths);
+    let slot = p.slot;
+    let mut lfo = slot.lfo;
+    lfo.shape = shape;
+    let player = edited(p, lfo);
+    Changed { answer, player }
+}
+
+// Sets the path: the first 64 of `count` points, whether it is closed, and the lengths of its legs.
+pub fn set_path(
+    p: Player,
+    points: [PathPointCodes; MAX_POINTS],
+    count: usize,
+    closed: u64,
+    legs: &[f32],
+) -> Changed
+    requires { ⌜ Valid p ⌝ }
+    ensures { λ r. ⌜ Changes p (call.path points count closed (now (legs .entry))) r ⌝ }
+{
+    let answer = questions::path_answer(true, points, count, closed, legs);
+    if answer != 0 {
+        return Changed { answer, player: p };
+    }
+    let path = curves::path_of(points, count, closed, legs);
+    let slot = p.slot;
+    let mut lfo = slot.lfo;
+    lfo.path = path;
+    let player = edited(p, lfo);
+    Changed { answer, player }
+}
+
+// Sets one bus. A value equal to the stored one, 0 and -0 included, changes nothing.
+pub fn set_bus(p: Player, bus: u64, value: f32) -> Changed
+    requires { ⌜ Valid p ⌝ }
+    ensures { λ r. ⌜ Changes p (call.bus bus value) r ⌝ }
+{
+    let answer = questions::bus_answer(bus, value);
+    if answer != 0 {
+        return Changed { answer, player: p };
+    }
+    let k = bus as usize;
+    let slot = p.slot;
+    let mut lfo = slot.lfo;
+    let mut buses = lfo.buses;
+    if buses[k] == value {
+        return Changed { answer, player: p };
+    }
+    buses[k] = value;
+    lfo.buses = buses;
+    let player = edited(p, lfo);
+    Changed { answer, player }
+}

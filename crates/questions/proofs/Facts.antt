@@ -1,0 +1,388 @@
+-- What the questions leave of a call that is accepted, of which `firstNo` is 0. Assumes nothing.
+use Prim.Native.Nat.{ℕ, zero, suc, _+_, _-_, _^_, _≤_, _<_, min}
+use mathlib.Core.Path.{_≡_, refl, sym, _∙_, subst}
+use mathlib.Core.Logic.{inl, inr}
+use mathlib.Core.Bool.{Bool, true, false, _&&_, cond, false≢true}
+use mathlib.Core.List.{List, _∷_}
+use native.Mathlib.Nat.{eq-or-lt-of-le, le-of-suc-le-suc, min-le-right}
+use native.Mathlib.Omega.{arith}
+use borrow.Author.Tests.{ltb-true, leb-true, eqb-true, lt-ltb, eq-eqb}
+use lib.Dec.{T, eqb, ltb, leb}
+use lib.ListN.{length, getD, List·getD-append}
+use lib.IntN.{pos}
+use lib.Ieee.{Float, nan, fin, ofBits, neg, le}
+use lib.Ieee.Scale.{finite}
+use Rattle.floatlaws.specs.Numbers.{Between, f32-0, f32-2, f64-0, f64-¼}
+use Rattle.floatlaws.proofs.NoNan.{finite-number}
+use Rattle.floatlaws.proofs.Order.{le-trans-at}
+use Rattle.floatlaws.proofs.Size.{Size, size-of-le, size-of-range}
+use Rattle.floatlaws.proofs.Tests.{yes-so}
+use Rattle.floatlaws.proofs.Unit.{zero-float}
+use Rattle.listlaws.specs.Tables.{padded}
+use Rattle.listlaws.proofs.Tabulation.{getD-padded}
+use Rattle.points.specs.declared.PointMod.the-variants as PointMod
+use Rattle.points.specs.Modulation.{FiniteMod}
+use Rattle.shape.specs.declared.Loopback.the-variants as Loopback
+use Rattle.shape.specs.Points.{blank, noPoint, FinitePoint}
+use Rattle.shape.specs.Shapes.{within}
+use Rattle.path_segments.specs.Times.{segmentsOf, Legs}
+use Rattle.settings.specs.Choices.{lfoTypeAt, modeAt, directionAt, feelAt, yesNoAt}
+use Rattle.settings.specs.Divisions.{divisionAt}
+use Rattle.settings.specs.Times.{rates, syncedRate, hzRate, rateAt, spanAt, scales, scaleAt}
+use Rattle.settings.specs.Codes.{smoothAt, withSpans, withSwitches, settingsAt, transportAt, withKind, withMode, withDirection, withYesNo, withRate, withSpan, withScale, withSmooth, settingsKnown, transportKnown}
+use Rattle.settings.specs.declared.choices.LfoType.{LfoType}
+use Rattle.settings.specs.declared.choices.LfoTypeCode.{LfoTypeCode}
+use Rattle.settings.specs.declared.choices.LfoTypeCode.the-variants as LfoTypeCode
+use Rattle.settings.specs.declared.choices.Mode.{Mode}
+use Rattle.settings.specs.declared.choices.ModeCode.{ModeCode}
+use Rattle.settings.specs.declared.choices.ModeCode.the-variants as ModeCode
+use Rattle.settings.specs.declared.choices.Direction.{Direction}
+use Rattle.settings.specs.declared.choices.DirectionCode.{DirectionCode}
+use Rattle.settings.specs.declared.choices.DirectionCode.the-variants as DirectionCode
+use Rattle.settings.specs.declared.choices.FeelCode.{FeelCode}
+use Rattle.settings.specs.declared.choices.FeelCode.the-variants as FeelCode
+use Rattle.settings.specs.declared.choices.YesNo.{YesNo}
+use Rattle.settings.specs.declared.choices.YesNo.the-variants as YesNo
+use Rattle.settings.specs.declared.division.DivisionCode.{DivisionCode}
+use Rattle.settings.specs.declared.division.DivisionCode.the-variants as DivisionCode
+use Rattle.settings.specs.declared.times.Rate.{Rate}
+use Rattle.settings.specs.declared.times.RateCodes.{RateCodes}
+use Rattle.settings.specs.declared.times.RateCode.{RateCode}
+use Rattle.settings.specs.declared.times.RateCode.the-variants as RateCode
+use Rattle.settings.specs.declared.times.Span.{Span}
+use Rattle.settings.specs.declared.times.SpanCode.{SpanCode}
+use Rattle.settings.specs.declared.times.SpanCode.the-variants as SpanCode
+use Rattle.settings.specs.declared.times.Scale.{Scale}
+use Rattle.settings.specs.declared.times.ScaleCodes.{ScaleCodes}
+use Rattle.settings.specs.declared.times.ScaleCode.{ScaleCode}
+use Rattle.settings.specs.declared.times.ScaleCode.the-variants as ScaleCode
+use Rattle.settings.specs.declared.record.Smooth.{Smooth}
+use Rattle.settings.specs.declared.record.SmoothCode.{SmoothCode}
+use Rattle.settings.specs.declared.record.SmoothCode.the-variants as SmoothCode
+use Rattle.settings.specs.declared.record.Settings.{Settings}
+use Rattle.settings.specs.declared.record.SettingsCodes.{SettingsCodes}
+use Rattle.settings.specs.declared.record.SettingsCode.{SettingsCode}
+use Rattle.settings.specs.declared.record.SettingsCode.the-variants as SettingsCode
+use Rattle.settings.specs.declared.record.Transport.{Transport}
+use Rattle.settings.specs.declared.record.TransportCodes.{TransportCodes}
+use Rattle.settings.specs.declared.record.TransportCode.{TransportCode}
+use Rattle.settings.specs.declared.record.TransportCode.the-variants as TransportCode
+use Rattle.reach.specs.Bounds.{RateNumber, SettingsIn, PercentNumber, TransportIn}
+use Rattle.curves.specs.declared.ModCodes.{ModCodes}
+use Rattle.curves.specs.declared.PointCodes.{PointCodes}
+use Rattle.curves.specs.declared.PathPointCodes.{PathPointCodes}
+use Rattle.curves.specs.declared.LoopbackCodes.{LoopbackCodes}
+use Rattle.curves.specs.Given.{isYes, modOf, noPointCodes, noPathPointCodes, pointOf, givenPoints, loopbackOf}
+use Rattle.questions.specs.declared.RestartCodes.{RestartCodes}
+use Rattle.questions.specs.Limits.{f32-1/16, f32-16, f64-64, f64-1000, f64-768000, f64-2147483647, f64-minus2147483648}
+use Rattle.questions.specs.Tests.{every, everyOf, between, strengthIn, legIn, rateFinite, spanFinite, smoothFinite, settingsFinite, smoothIn, modFinite, pointFinite, pathPointFinite, transportFinite, transportIn, loopbackBelow}
+use Rattle.questions.specs.Questions.{Question, firstNo, settingsQuestions, shapeQuestions, pathQuestions, busQuestions, phaseQuestions, blockQuestions}
+use Rattle.questions.proofs.Laws.{and-true, three, five, seven}
+
+-- ---- the laws that the others cite
+
+-- a question that is not the one that was failed was passed
+pub passed : (k : ℕ) (test : Bool) (rest : List Question) → firstNo ((suc k, test) ∷ rest) ≡ 0 → (test ≡ true) × (firstNo rest ≡ 0)
+unfolding firstNo
+passed k true rest h = (refl, h)
+passed k false rest h = let z : ⊥ = omega arith in absurd z
+
+pub every-so : (t : ℕ → Bool) (n : ℕ) → every t n ≡ true → (k : ℕ) → k < n → t k ≡ true
+unfolding every
+every-so t zero h k l = let z : ⊥ = omega arith in absurd z
+every-so t (suc n) h k l =
+    let a = and-true (every t n) (t n) h in
+    elim (eq-or-lt-of-le (le-of-suc-le-suc l)) [
+      | inl e ↦ rw e (a .1)
+      | inr m ↦ every-so t n (a .0) k m
+    ]
+
+between-so : (lo x hi : Float) → between lo x hi ≡ true → Between lo x hi
+between-so lo x hi h = let a = and-true (le lo x) (le x hi) h in (yes-so (a .0), yes-so (a .1))
+
+-- ---- settings
+
+pub record SettingsAccepted (c : SettingsCodes) : Type 0 where
+  pub known : settingsKnown c ≡ true
+  pub finite-all : settingsFinite c ≡ true
+  pub smooth-in : smoothIn (c .smooth) ≡ true
+
+pub settings-accepted : (c : SettingsCodes) → firstNo (settingsQuestions c) ≡ 0 → SettingsAccepted c
+unfolding settingsQuestions
+settings-accepted c h =
+    let q1 = passed 0 _ _ h in
+    let q2 = passed 1 _ _ (q1 .1) in
+    let q5 = passed 4 _ _ (q2 .1) in
+    record { known = q1 .0; finite-all = q2 .0; smooth-in = q5 .0 }
+
+abbrev KnownRate : RateCode → Type 0
+KnownRate (RateCode.Known r) = RateNumber r
+KnownRate RateCode.Unknown = Unit
+
+abbrev KnownScale : ScaleCode → Type 0
+KnownScale (ScaleCode.Known s) = PercentNumber s
+KnownScale ScaleCode.Unknown = Unit
+
+abbrev KnownSettings : SettingsCode → Type 0
+KnownSettings (SettingsCode.Known s) = s .«grid_x» < 2 ^ 16 → SettingsIn s
+KnownSettings SettingsCode.Unknown = Unit
+
+abbrev KnownTransport : TransportCode → Type 0
+KnownTransport (TransportCode.Known t) = TransportIn t
+KnownTransport TransportCode.Unknown = Unit
+
+-- what holds of each known choice, and of the answer where one is not known, holds of the answer
+module _ {A : Type 0} (P : A → Type 0) {u : A} (unknown : P u) where
+  with-kind : (x : LfoTypeCode) {f : LfoType → A} → ((k : LfoType) → P (f k)) → P (withKind u x f)
+  with-kind (LfoTypeCode.Known k) h = h k
+  with-kind LfoTypeCode.Unknown h = unknown
+
+  with-mode : (x : ModeCode) {f : Mode → A} → ((k : Mode) → P (f k)) → P (withMode u x f)
+  with-mode (ModeCode.Known k) h = h k
+  with-mode ModeCode.Unknown h = unknown
+
+  with-direction : (x : DirectionCode) {f : Direction → A} → ((k : Direction) → P (f k)) → P (withDirection u x f)
+  with-direction (DirectionCode.Known k) h = h k
+  with-direction DirectionCode.Unknown h = unknown
+
+  with-yes-no : (x : YesNo) {f : Bool → A} → ((k : Bool) → P (f k)) → P (withYesNo u x f)
+  with-yes-no (YesNo.Known k) h = h k
+  with-yes-no YesNo.Unknown h = unknown
+
+  with-span : (x : SpanCode) {f : Span → A} → ((k : Span) → P (f k)) → P (withSpan u x f)
+  with-span (SpanCode.Known k) h = h k
+  with-span SpanCode.Unknown h = unknown
+
+  with-smooth : (x : SmoothCode) {f : Smooth → A} → ((k : Smooth) → P (f k)) → P (withSmooth u x f)
+  with-smooth (SmoothCode.Known k) h = h k
+  with-smooth SmoothCode.Unknown h = unknown
+
+  with-rate : (x : RateCode) {f : Rate → A} → KnownRate x → ((k : Rate) → RateNumber k → P (f k)) → P (withRate u x f)
+  with-rate (RateCode.Known k) n h = h k n
+  with-rate RateCode.Unknown n h = unknown
+
+  with-scale : (x : ScaleCode) {f : Scale → A} → KnownScale x → ((k : Scale) → PercentNumber k → P (f k)) → P (withScale u x f)
+  with-scale (ScaleCode.Known k) n h = h k n
+  with-scale ScaleCode.Unknown n h = unknown
+
+synced-number : (d : DivisionCode) (f : FeelCode) → KnownRate (syncedRate d f)
+synced-number (DivisionCode.Known d) (FeelCode.Known f) = tt
+synced-number (DivisionCode.Known d) FeelCode.Unknown = tt
+synced-number DivisionCode.Unknown f = tt
+
+hz-number : (hz : Float) (x : YesNo) → T (finite hz) → KnownRate (hzRate hz x)
+hz-number hz (YesNo.Known b) h = finite-number hz h
+hz-number hz YesNo.Unknown h = tt
+
+rate-number : (c : RateCodes) → rateFinite c ≡ true → KnownRate (rateAt c)
+unfolding rateAt
+rate-number c = at (c .code)
+  where
+    at : (k : ℕ) → cond (eqb k 1) (finite (c .hz)) true ≡ true → KnownRate (getD (rates c) k RateCode.Unknown)
+    at zero h = synced-number (divisionAt (c .division)) (feelAt (c .feel))
+    at (suc zero) h = hz-number (c .hz) (yesNoAt (c .x10)) (yes-so h)
+    at (suc (suc k)) h = tt
+
+known-settings : (c : SettingsCodes) → settingsFinite c ≡ true → KnownSettings (settingsAt c)
+unfolding settingsFinite settingsAt withSwitches withSpans
+known-settings c h =
+    let all = five (rateFinite (c .rate)) (spanFinite (c .«fade_in»)) (spanFinite (c .delay)) (smoothFinite (c .smooth)) (finite (c .phase)) h in
+    with-kind KnownSettings tt (lfoTypeAt (c .kind)) λ kind.
+    with-mode KnownSettings tt (modeAt (c .mode)) λ mode.
+    with-direction KnownSettings tt (directionAt (c .direction)) λ direction.
+    with-rate KnownSettings tt (rateAt (c .rate)) (rate-number (c .rate) (all .0)) λ rate number.
+    with-yes-no KnownSettings tt (yesNoAt (c .«song_lock»)) λ lock.
+    with-yes-no KnownSettings tt (yesNoAt (c .swing)) λ swing.
+    with-yes-no KnownSettings tt (yesNoAt (c .«phase_snap»)) λ snap.
+    with-span KnownSettings tt (spanAt (c .«fade_in»)) λ fade.
+    with-span KnownSettings tt (spanAt (c .delay)) λ delay.
+    with-smooth KnownSettings tt (smoothAt (c .smooth)) λ smooth grid.
+    record { rate-number = number; phase-number = finite-number (c .phase) (yes-so (all .4)); grid-in = grid }
+
+pub settings-in : (c : SettingsCodes) → firstNo (settingsQuestions c) ≡ 0 → (s : Settings) → settingsAt c ≡ SettingsCode.Known s → s .«grid_x» < 2 ^ 16 → SettingsIn s
+settings-in c h s e = subst KnownSettings e (known-settings c (settings-accepted c h .finite-all))
+
+-- ---- a transport
+
+percent-number : (c : ScaleCodes) → T (finite (c .percent)) → KnownScale (scaleAt c)
+unfolding scaleAt
+percent-number c h = at (c .code)
+  where
+    at : (k : ℕ) → KnownScale (getD (scales c) k ScaleCode.Unknown)
+    at zero = finite-number (c .percent) h
+    at (suc zero) = finite-number (c .percent) h
+    at (suc (suc k)) = tt
+
+tempo-size : (x : Float) → between f64-0 x f64-1000 ≡ true → Size x 1000
+unfolding ofBits
+tempo-size x h = let b = between-so f64-0 x f64-1000 h in size-of-le f64-1000 1000 (refl, refl) (b .0) (b .1)
+
+bar-size : (x : Float) → between f64-¼ x f64-64 ≡ true → Size x 64
+unfolding ofBits
+bar-size x h = let b = between-so f64-¼ x f64-64 h in size-of-le f64-64 64 (refl, refl) (le-trans-at zero-float f64-¼ x (unfold le in tt) (b .0)) (b .1)
+
+song-size : (x : Float) → between f64-minus2147483648 x f64-2147483647 ≡ true → Size x (2 ^ 31)
+unfolding ofBits neg
+song-size x h =
+    let b = between-so f64-minus2147483648 x f64-2147483647 h in
+    let top = fin false 1 (pos 31) in
+    size-of-range f64-minus2147483648 top (2 ^ 31) (refl, refl) (refl, refl) (b .0) (le-trans-at x f64-2147483647 top (b .1) (unfold le in tt))
+
+known-transport : (c : TransportCodes) → transportFinite c ≡ true → transportIn c ≡ true → KnownTransport (transportAt c)
+unfolding transportFinite transportIn transportAt
+known-transport c h i =
+    let all =
+    seven (finite (c .«sample_rate»)) (finite (c .tempo)) (finite (c .«beats_per_bar»)) (finite (c .beats)) (finite (c .seconds)) (finite (c .swing))
+    (finite (c .scale .percent)) h in
+    let limits =
+    five (between f64-1000 (c .«sample_rate») f64-768000) (between f64-0 (c .tempo) f64-1000) (between f64-¼ (c .«beats_per_bar») f64-64)
+    (between f64-minus2147483648 (c .beats) f64-2147483647) (between f64-minus2147483648 (c .seconds) f64-2147483647) i in
+    with-yes-no KnownTransport tt (yesNoAt (c .playing)) λ playing.
+    with-scale KnownTransport tt (scaleAt (c .scale)) (percent-number (c .scale) (yes-so (all .6))) λ scale number.
+    record {
+      rate-finite = yes-so (all .0);
+      tempo-in = tempo-size (c .tempo) (limits .1);
+      bar-in = bar-size (c .«beats_per_bar») (limits .2);
+      beats-at = song-size (c .beats) (limits .3);
+      seconds-at = song-size (c .seconds) (limits .4);
+      swing-number = finite-number (c .swing) (yes-so (all .5));
+      percent-number = number;
+    }
+
+pub record TransportAccepted (c : TransportCodes) : Type 0 where
+  pub known : transportKnown c ≡ true
+  pub finite-all : transportFinite c ≡ true
+  pub in-range : transportIn c ≡ true
+
+pub transport-in : (c : TransportCodes) → TransportAccepted c → (t : Transport) → transportAt c ≡ TransportCode.Known t → TransportIn t
+transport-in c a t e = subst KnownTransport e (known-transport c (a .finite-all) (a .in-range))
+
+pub phase-accepted : (c : TransportCodes) → firstNo (phaseQuestions c) ≡ 0 → TransportAccepted c
+unfolding phaseQuestions
+phase-accepted c h =
+    let q1 = passed 0 _ _ h in
+    let q2 = passed 1 _ _ (q1 .1) in
+    let q6 = passed 5 _ _ (q2 .1) in
+    record { known = q1 .0; finite-all = q2 .0; in-range = q6 .0 }
+
+-- ---- a block
+
+pub record BlockAccepted (played : ℕ) (c : TransportCodes) (frames : ℕ) (restart : RestartCodes) (x-len y-len : ℕ) : Type 0 where
+  pub transport : TransportAccepted c
+  pub restart-known : restart .code < 2
+  pub short : frames ≤ 4096
+  pub room-x : frames ≤ x-len
+  pub room-y : frames ≤ y-len
+  pub within-life : played + frames ≤ 2 ^ 40
+
+pub block-accepted : (played : ℕ) (c : TransportCodes) (frames : ℕ) (restart : RestartCodes) (x-len y-len : ℕ) → firstNo (blockQuestions played c frames restart x-len y-len) ≡ 0
+    → BlockAccepted played c frames restart x-len y-len
+unfolding blockQuestions
+block-accepted played c frames restart x-len y-len h =
+    let q1 = passed 0 _ _ h in
+    let q2 = passed 1 _ _ (q1 .1) in
+    let q6 = passed 5 _ _ (q2 .1) in
+    let q7 = passed 6 _ _ (q6 .1) in
+    let q8 = passed 7 _ _ (q7 .1) in
+    let codes = and-true (transportKnown c) (ltb (restart .code) 2) (q1 .0) in
+    let fits = three (leb frames 4096) (leb frames x-len) (leb frames y-len) (q7 .0) in
+    record {
+      transport = record { known = codes .0; finite-all = q2 .0; in-range = q6 .0 };
+      restart-known = ltb-true _ _ (codes .1);
+      short = leb-true _ _ (fits .0);
+      room-x = leb-true _ _ (fits .1);
+      room-y = leb-true _ _ (fits .2);
+      within-life = leb-true _ _ (q8 .0);
+    }
+
+-- ---- a bus
+
+pub bus-accepted : (bus : ℕ) (value : Float) → firstNo (busQuestions bus value) ≡ 0 → T (finite value) × (bus < 16)
+unfolding busQuestions
+bus-accepted bus value h =
+    let q2 = passed 1 _ _ h in
+    let q9 = passed 8 _ _ (q2 .1) in
+    (yes-so (q2 .0), ltb-true _ _ (q9 .0))
+
+-- ---- a shape
+
+mod-finite : (c : ModCodes) → modFinite c ≡ true → FiniteMod (modOf c)
+unfolding modOf
+mod-finite c = at (eqb (c .code) 1)
+  where
+    at : (b : Bool) → cond b (finite (c .depth)) true ≡ true → FiniteMod (cond b (PointMod.Bus (c .bus) (c .depth)) PointMod.None)
+    at true h = yes-so h
+    at false h = tt
+
+point-finite : (c : PointCodes) (e : Float) → pointFinite c ≡ true → FinitePoint (pointOf c e)
+unfolding pointFinite pointOf
+point-finite c e h =
+    let all = five (finite (c .x)) (finite (c .y)) (finite (c .curve)) (modFinite (c .«x_mod»)) (modFinite (c .«y_mod»)) h in
+    (yes-so (all .0), yes-so (all .1), yes-so (all .2), mod-finite (c .«x_mod») (all .3), mod-finite (c .«y_mod») (all .4))
+
+pub record ShapeAccepted (others : Bool) (points : List PointCodes) (count : ℕ) (loopback : LoopbackCodes) (strengths : List Float) : Type 0 where
+  pub others-finite : others ≡ true
+  pub points-finite : (k : ℕ) → k < min count 64 → FinitePoint (getD (givenPoints points strengths (min count 64)) k noPoint)
+  pub length-is : length strengths ≡ min count 64
+  pub loopback-kept : within (loopbackOf loopback) (min count 64) ≡ loopbackOf loopback
+  pub strengths-in : (k : ℕ) → k < min count 64 → Between f32-1/16 (getD strengths k nan) f32-16
+
+below-kept : (c : LoopbackCodes) (n : ℕ) → loopbackBelow c n ≡ true → within (loopbackOf c) n ≡ loopbackOf c
+unfolding within loopbackOf
+below-kept c n = at (eqb (c .code) 1)
+  where
+    at : (b : Bool) → cond b (ltb (c .index) n) true ≡ true → within (cond b (Loopback.At (c .index)) Loopback.None) n ≡ cond b (Loopback.At (c .index)) Loopback.None
+    at true h = rw h
+    at false h = refl
+
+pub shape-accepted : (others : Bool) (points : List PointCodes) (count : ℕ) (loopback : LoopbackCodes) (strengths : List Float)
+    → firstNo (shapeQuestions others points count loopback strengths) ≡ 0 → ShapeAccepted others points count loopback strengths
+unfolding shapeQuestions givenPoints
+shape-accepted others points count loopback strengths h =
+    let q1 = passed 0 _ _ h in
+    let q2 = passed 1 _ _ (q1 .1) in
+    let q3 = passed 2 _ _ (q2 .1) in
+    let q4 = passed 3 _ _ (q3 .1) in
+    let q5 = passed 4 _ _ (q4 .1) in
+    let floats = three (every (λ k. pointFinite (getD points k noPointCodes)) (min count 64)) (everyOf finite strengths) others (q2 .0) in
+    let size : length strengths ≡ min count 64 = eqb-true _ _ (q3 .0) in
+    record {
+      others-finite = floats .2;
+      points-finite = λ k l. subst FinitePoint (sym (getD-padded _ 64 blank (min count 64) k noPoint l)) (point-finite _ _ (every-so _ _ (floats .0) k l));
+      length-is = size;
+      loopback-kept = below-kept loopback (min count 64) (q4 .0);
+      strengths-in = λ k l. between-so _ _ _ (every-so (λ i. strengthIn (getD strengths i nan)) _ (q5 .0) k (omega arith));
+    }
+
+-- ---- a path
+
+segments-most : (n : ℕ) (closed : Bool) → segmentsOf n closed ≤ n
+unfolding segmentsOf
+segments-most n closed = at (ltb n 2) closed
+  where
+    at : (b closed : Bool) → cond b 0 (cond closed n (n - 1)) ≤ n
+    at true closed = omega arith
+    at false true = omega arith
+    at false false = omega arith
+
+pub record PathAccepted (others : Bool) (count closed : ℕ) (legs : List Float) : Type 0 where
+  pub others-finite : others ≡ true
+  pub length-is : length legs ≡ segmentsOf (min count 64) (isYes closed)
+  pub legs-short : length legs ≤ 64
+  pub legs-in : Legs (padded 64 f32-0 legs) (segmentsOf (min count 64) (isYes closed))
+
+pub path-accepted : (others : Bool) (points : List PathPointCodes) (count closed : ℕ) (legs : List Float) → firstNo (pathQuestions others points count closed legs) ≡ 0
+    → PathAccepted others count closed legs
+unfolding pathQuestions
+path-accepted others points count closed legs h =
+    let q1 = passed 0 _ _ h in
+    let q2 = passed 1 _ _ (q1 .1) in
+    let q3 = passed 2 _ _ (q2 .1) in
+    let q5 = passed 4 _ _ (q3 .1) in
+    let size : length legs ≡ segmentsOf (min count 64) (isYes closed) = eqb-true _ _ (q3 .0) in
+    record {
+      others-finite = three (every (λ k. pathPointFinite (getD points k noPathPointCodes)) (min count 64)) (everyOf finite legs) others (q2 .0) .2;
+      length-is = size;
+      legs-short = omega (arith, segments-most (min count 64) (isYes closed), min-le-right count 64);
+      legs-in = λ k l. subst (λ (x : Float). Between f32-0 x f32-2) (sym (List·getD-append legs _ nan k (omega arith))) (between-so _ _ _ (every-so (λ i. legIn (getD legs i nan)) _ (q5 .0) k (omega arith)));
+    }

@@ -1,0 +1,41 @@
+-- `phase_answer` meets its contract. Assumes nothing.
+use borrow.Author.Needs.{needs}
+use Rattle.questions.specs.Questions.{firstNo, phaseQuestions}
+use Rattle.questions.proofs.Laws.{no, yes}
+use Rattle.questions.proofs.phase_answer.Statement.{statement}
+use Rattle.questions.proofs.phase_answer.Tie as tie
+
+returns : tie.Need-returns
+unfolding firstNo phaseQuestions
+returns c = rw (no (c .before .transport-known .ensures) (c .if1 .taken))
+
+returns-2 : tie.Need-returns-2
+unfolding firstNo phaseQuestions
+returns-2 c =
+    let q1 = c .before .before in
+    rw (yes (q1 .before .transport-known .ensures) (q1 .if1 .left), no (c .before .transport-finite .ensures) (c .if2 .taken))
+
+returns-3 : tie.Need-returns-3
+unfolding firstNo phaseQuestions
+returns-3 c =
+    let q2 = c .before .before in
+    let q1 = q2 .before .before in
+    rw (
+      yes (q1 .before .transport-known .ensures) (q1 .if1 .left),
+      yes (q2 .before .transport-finite .ensures) (q2 .if2 .left),
+      no (c .before .transport-in .ensures) (c .if3 .taken),
+    )
+
+returns-4 : tie.Need-returns-4
+unfolding firstNo phaseQuestions
+returns-4 c =
+    let q2 = c .before .before in
+    let q1 = q2 .before .before in
+    rw (
+      yes (q1 .before .transport-known .ensures) (q1 .if1 .left),
+      yes (q2 .before .transport-finite .ensures) (q2 .if2 .left),
+      yes (c .before .transport-in .ensures) (c .if3 .left),
+    )
+
+pub phase-answer-spec : {M : Type 1} → statement M
+phase-answer-spec = tie.close (tie.spec (λ c κs. search needs) returns (λ c κs. search needs) returns-2 (λ c κs. search needs) returns-3 returns-4)
