@@ -1,0 +1,4 @@
+pub mod Parser
+pub mod Fields
+pub mod Records
+pub mod Curves
