@@ -23,7 +23,7 @@ fn numbers_size(s: &[u64]) -> usize
 }
 
 // The bits of `x`, with 7fc00000 for NaN.
-fn bits(x: f32) -> u64
+pub fn bits(x: f32) -> u64
     ensures { λ r. ⌜ r ≡ toBits binary32 x ⌝ }
 {
     floatbits::bits_of_f32(x)
