@@ -3,7 +3,6 @@ use Prim.Native.Nat.{ℕ}
 use mathlib.Core.Path.{_≡_, refl, ap}
 use mathlib.Core.Logic.{_⊎_, inl, inr}
 use mathlib.Core.Bool.{Bool, true}
-use native.Mathlib.Omega.{arith}
 use lib.Ieee.{Float}
 use Rattle.settings.specs.declared.choices.LfoType.{LfoType}
 use Rattle.settings.specs.declared.choices.LfoType.the-variants.{Drawn, Path, Lorenz, Rossler, SampleAndHold}
@@ -63,25 +62,22 @@ unfolding postOf capturedOf
 post-same smooth g t raw c d (inl e) = rw e refl
 post-same smooth g t raw c d (inr e) = rw e refl
 
-not-path : {A : Type 0} (kind : LfoType) → kind ≡ Drawn ⊎ (kind ≡ Lorenz ⊎ (kind ≡ Rossler ⊎ kind ≡ SampleAndHold)) → kind ≡ Path → A
-not-path kind (inl e) p = let z : _≡_ {A = ℕ} 0 1 = cc in absurd (omega arith)
-not-path kind (inr (inl e)) p = let z : _≡_ {A = ℕ} 0 1 = cc in absurd (omega arith)
-not-path kind (inr (inr (inl e))) p = let z : _≡_ {A = ℕ} 0 1 = cc in absurd (omega arith)
-not-path kind (inr (inr (inr e))) p = let z : _≡_ {A = ℕ} 0 1 = cc in absurd (omega arith)
+-- the second output, of its states c and d before a sample
+module _ (smooth : Smooth) (g : Float) (t : Bool) (raw : Float) (c d : Channel) where
+  abbrev second : LfoType → Channel → Channel
+  second kind z = secondOf kind smooth g t raw z
 
-second-value : (kind : LfoType) (smooth : Smooth) (g : Float) (t : Bool) (raw : Float) (c d : Channel) → (kind ≡ Path → Started t c d)
-    → secondValue kind raw (secondOf kind smooth g t raw c) ≡ secondValue kind raw (secondOf kind smooth g t raw d)
-unfolding secondValue secondOf
-second-value Drawn smooth g t raw c d s = refl
-second-value Path smooth g t raw c d s = ap (λ (z : Channel). z .smoothed) (post-same smooth g t raw c d (s refl))
-second-value Lorenz smooth g t raw c d s = refl
-second-value Rossler smooth g t raw c d s = refl
-second-value SampleAndHold smooth g t raw c d s = refl
+  second-value : (kind : LfoType) → (kind ≡ Path → Started t c d) → secondValue kind raw (second kind c) ≡ secondValue kind raw (second kind d)
+  unfolding secondValue secondOf
+  second-value Drawn s = refl
+  second-value Path s = ap (λ (z : Channel). z .smoothed) (post-same smooth g t raw c d (s refl))
+  second-value Lorenz s = refl
+  second-value Rossler s = refl
+  second-value SampleAndHold s = refl
 
-second-same : (kind : LfoType) (smooth : Smooth) (g : Float) (t : Bool) (raw : Float) (c d : Channel) → (kind ≡ Path → Started t c d)
-    → kind ≡ Path → secondOf kind smooth g t raw c ≡ secondOf kind smooth g t raw d
-unfolding secondOf
-second-same kind smooth g t raw c d s e = rw e (post-same smooth g t raw c d (s e))
+  second-same : (kind : LfoType) → (kind ≡ Path → Started t c d) → kind ≡ Path → second kind c ≡ second kind d
+  unfolding secondOf
+  second-same kind s e = rw e (post-same smooth g t raw c d (s e))
 
 pub record PostedAlike (kind : LfoType) (smooth : Smooth) (o p : Output) (x y : Float) : Type 0 where
   pub x-same : posted kind smooth o x y .x ≡ posted kind smooth p x y .x
@@ -95,7 +91,7 @@ posted-alike kind smooth o p x y a =
     let first = post-same smooth g (p .capture) x (o .x) (p .x) (a .first) in
     record {
       x-same = rw (a .t, a .delay, a .fade, a .inverse, a .capture) (ap (λ (z : Channel). z .smoothed) first);
-      y-same = rw (a .t, a .delay, a .fade, a .inverse, a .capture) (second-value kind smooth g (p .capture) y (o .y) (p .y) (a .second));
+      y-same = rw (a .t, a .delay, a .fade, a .inverse, a .capture) (second-value smooth g (p .capture) y (o .y) (p .y) kind (a .second));
       outputs = record {
         t = ap laterOf (a .t);
         delay = a .delay;
@@ -103,7 +99,7 @@ posted-alike kind smooth o p x y a =
         inverse = a .inverse;
         capture = refl;
         first = inr (rw (a .t, a .delay, a .fade, a .inverse, a .capture) first);
-        second = λ (e : kind ≡ Path). inr (rw (a .t, a .delay, a .fade, a .inverse, a .capture) (second-same kind smooth g (p .capture) y (o .y) (p .y) (a .second) e));
+        second = λ (e : kind ≡ Path). inr (rw (a .t, a .delay, a .fade, a .inverse, a .capture) (second-same smooth g (p .capture) y (o .y) (p .y) kind (a .second) e));
       };
     }
 

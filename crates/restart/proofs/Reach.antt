@@ -3,7 +3,6 @@ use Prim.Native.Nat.{ℕ}
 use mathlib.Core.Path.{_≡_, refl}
 use mathlib.Core.Bool.{Bool, true, false, cond}
 use mathlib.Core.List.{List, [], _∷_}
-use lib.Dec.{T}
 use lib.Ieee.{Float}
 use borrow.Author.Tests.{eqb-true}
 use Rattle.shape.specs.declared.Shape.{Shape}
@@ -18,14 +17,13 @@ use Rattle.settings.specs.Codes.{settingsAt, transportAt}
 use Rattle.settings.specs.Records.{defaultSettings}
 use Rattle.slot.specs.Slot.{slotCurve}
 use Rattle.slot.specs.Moved.{curveOf}
-use Rattle.questions.specs.Tests.{settingsFinite}
 use Rattle.questions.specs.Questions.{firstNo, settingsQuestions}
+use Rattle.questions.proofs.Facts.{settings-accepted}
 use Rattle.calls.specs.State.{State, newState, withSettings, withShape, withPath, withBus}
 use Rattle.calls.specs.Blocks.{pendingOf, playedState}
 use Rattle.calls.specs.Calls.{Call, settings, shape, path, bus, phase, block, questions, answer, accepts, bySettings, byTransport, makes, noPlayer, made, accepted, step}
 use Rattle.restart.specs.Heard.{after}
 use Rattle.restart.specs.Rule.{Equal}
-use Rattle.restart.proofs.Accepted.{said}
 use Rattle.restart.proofs.Kept.{KeptShape, KeptPath, default-shape, given-shape, default-path, given-path, same-shape, same-path}
 use Rattle.restart.proofs.Settled.{Settled, settled-stored, settled-default, Fine, settings-fine}
 
@@ -42,14 +40,9 @@ unfolding newState
 good-new seed (SettingsCode.Known s) f = record { settled = settled-stored s f; shape-kept = default-shape; path-kept = default-path }
 good-new seed SettingsCode.Unknown f = record { settled = settled-stored defaultSettings settled-default; shape-kept = default-shape; path-kept = default-path }
 
--- the floats of accepted settings are finite
-finite-settings : (c : SettingsCodes) → firstNo (settingsQuestions c) ≡ 0 → T (settingsFinite c)
-unfolding settingsQuestions
-finite-settings c e = said 1 _ _ (said 0 _ _ e .1) .0
-
 pub good-made : (c : SettingsCodes) (seed : ℕ) → makes c ≡ true → Good (made c seed)
 unfolding made
-good-made c seed e = rw e (good-new seed (settingsAt c) (settings-fine c (finite-settings c (eqb-true (firstNo (settingsQuestions c)) 0 e))))
+good-made c seed e = rw e (good-new seed (settingsAt c) (settings-fine c (settings-accepted c (eqb-true (firstNo (settingsQuestions c)) 0 e) .finite-all)))
 
 -- ---- every call keeps it
 
@@ -65,7 +58,7 @@ good-played p TransportCode.Unknown n at g = g
 
 good-accepted : (p : State) (c : Call) → answer p c ≡ 0 → Good p → Good (accepted p c)
 unfolding accepted answer questions withShape withPath withBus
-good-accepted p (settings c) e g = good-set p (settingsAt c) (settings-fine c (finite-settings c e)) g
+good-accepted p (settings c) e g = good-set p (settingsAt c) (settings-fine c (settings-accepted c e .finite-all)) g
 good-accepted p (shape points n loopback es) e g = record { settled = g .settled; shape-kept = given-shape points n loopback es; path-kept = g .path-kept }
 good-accepted p (path points n closed legs) e g = record { settled = g .settled; shape-kept = g .shape-kept; path-kept = given-path points n closed legs }
 good-accepted p (bus k z) e g = record { settled = g .settled; shape-kept = g .shape-kept; path-kept = g .path-kept }

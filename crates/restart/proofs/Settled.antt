@@ -1,12 +1,14 @@
 -- What holds of the settings of every player: no number in them is a NaN. Nothing is asked of the grid. Assumes nothing.
 use Prim.Native.Nat.{ℕ, zero, suc}
-use mathlib.Core.Bool.{Bool, true, _&&_, cond}
+use mathlib.Core.Path.{_≡_}
+use mathlib.Core.Bool.{Bool, true, cond}
 use mathlib.Core.List.{[], _∷_}
 use lib.Dec.{T, eqb, lit<}
 use lib.ListN.{getD}
 use lib.Ieee.{Float, isNan, ofBits}
 use lib.Ieee.Scale.{finite}
 use Rattle.floatlaws.proofs.NoNan.{finite-number}
+use Rattle.floatlaws.proofs.Tests.{yes-so}
 use Rattle.settings.specs.declared.choices.LfoType.{LfoType}
 use Rattle.settings.specs.declared.choices.LfoTypeCode.{LfoTypeCode}
 use Rattle.settings.specs.declared.choices.LfoTypeCode.the-variants as LfoTypeCode
@@ -43,8 +45,8 @@ use Rattle.settings.specs.Codes.{smoothAt, withKind, withMode, withDirection, w
 use Rattle.settings.specs.Records.{defaultSettings, clampedSettings}
 use Rattle.reach.specs.Bounds.{RateNumber, SettingsIn}
 use Rattle.slot.proofs.Slots.{stored-in}
+use Rattle.questions.proofs.Laws.{five}
 use Rattle.questions.specs.Tests.{rateFinite, spanFinite, smoothFinite, settingsFinite}
-use Rattle.restart.proofs.Accepted.{first, second}
 
 -- the settings without their grid
 abbrev pub ungridded : Settings → Settings
@@ -137,26 +139,18 @@ smooths : (c : SmoothCode) (f : Smooth → SettingsCode) → ((x : Smooth) → F
 smooths (SmoothCode.Known x) f h = h x
 smooths SmoothCode.Unknown f h = tt
 
-fine-at : (c : SettingsCodes) → T (rateFinite (c .rate)) → T (finite (c .phase)) → Fine (settingsAt c)
-unfolding settingsAt withSwitches withSpans
-fine-at c r p =
+pub settings-fine : (c : SettingsCodes) → settingsFinite c ≡ true → Fine (settingsAt c)
+unfolding settingsFinite settingsAt withSwitches withSpans
+settings-fine c h =
+    let all = five (rateFinite (c .rate)) (spanFinite (c .«fade_in»)) (spanFinite (c .delay)) (smoothFinite (c .smooth)) (finite (c .phase)) h in
     kinds (lfoTypeAt (c .kind)) _ λ kind.
     modes (modeAt (c .mode)) _ λ mode.
     directions (directionAt (c .direction)) _ λ direction.
-    rates (rateAt (c .rate)) _ (rate-fine (c .rate) r) λ rate i.
+    rates (rateAt (c .rate)) _ (rate-fine (c .rate) (yes-so (all .0))) λ rate i.
     answers (yesNoAt (c .«song_lock»)) _ λ lock.
     answers (yesNoAt (c .swing)) _ λ swing.
     answers (yesNoAt (c .«phase_snap»)) _ λ snap.
     spans (spanAt (c .«fade_in»)) _ λ fade.
     spans (spanAt (c .delay)) _ λ delay.
     smooths (smoothAt (c .smooth)) _ λ smooth.
-    record { rate-number = i; phase-number = finite-number (c .phase) p; grid-in = lit< tt }
-
-pub settings-fine : (c : SettingsCodes) → T (settingsFinite c) → Fine (settingsAt c)
-unfolding settingsFinite
-settings-fine c h =
-    let a = rateFinite (c .rate) in
-    let b = spanFinite (c .«fade_in») in
-    let d = spanFinite (c .delay) in
-    let e = smoothFinite (c .smooth) in
-    fine-at c (first a b (first (a && b) d (first (a && b && d) e (first (a && b && d && e) (finite (c .phase)) h)))) (second (a && b && d && e) (finite (c .phase)) h)
+    record { rate-number = i; phase-number = finite-number (c .phase) (yes-so (all .4)); grid-in = lit< tt }

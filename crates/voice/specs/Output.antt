@@ -39,20 +39,23 @@ unfoldable pub smoothedOf : Smooth → Float → Float → Float
 smoothedOf Smooth.Off state value = value
 smoothedOf (Smooth.By a) state value = state +₃₂ (value -₃₂ state) ×₃₂ a
 
--- one output after a sample, of its state there and its faded value: its last value is what it puts out
+-- an output after a sample, of its state there and its faded value
 abbrev pub putOut : Smooth → Channel → Float → Channel
 putOut smooth from value = record { start = from .start; smoothed = smoothedOf smooth (from .smoothed) value }
 
+-- one output after a sample: its last value is what it puts out
 unfoldable pub postOf : Smooth → Float → Bool → Float → Channel → Channel
-postOf smooth g capture raw c = let from = capturedOf capture raw c in putOut smooth from (fadedOf g raw (from .start))
+postOf smooth g capture raw c =
+    let from = capturedOf capture raw c in
+    record { start = from .start; smoothed = smoothedOf smooth (from .smoothed) (fadedOf g raw (from .start)) }
 
 -- only a path has a second output; of another type the second value is what was generated, 0
-unfoldable pub secondOf : LfoType → Channel → Channel → Channel
-secondOf Path after c = after
-secondOf Drawn after c = c
-secondOf Lorenz after c = c
-secondOf Rossler after c = c
-secondOf SampleAndHold after c = c
+unfoldable pub secondOf : LfoType → Smooth → Float → Bool → Float → Channel → Channel
+secondOf Path smooth g capture raw c = postOf smooth g capture raw c
+secondOf Drawn smooth g capture raw c = c
+secondOf Lorenz smooth g capture raw c = c
+secondOf Rossler smooth g capture raw c = c
+secondOf SampleAndHold smooth g capture raw c = c
 
 unfoldable pub secondValue : LfoType → Float → Channel → Float
 secondValue Path raw c = c .smoothed
@@ -65,7 +68,7 @@ unfoldable pub posted : LfoType → Smooth → Output → Float → Float → Po
 posted kind smooth o x y =
     let g = gainOf (o .t) (o .delay) (o .fade) (o .«inv_fade») in
     let after-x = postOf smooth g (o .capture) x (o .x) in
-    let after-y = secondOf kind (postOf smooth g (o .capture) y (o .y)) (o .y) in
+    let after-y = secondOf kind smooth g (o .capture) y (o .y) in
     record {
       output =
           record { t = laterOf (o .t); delay = o .delay; fade = o .fade; «inv_fade» = o .«inv_fade»; capture = false; x = after-x; y = after-y };

@@ -1,6 +1,8 @@
 // What a voice puts out: the start value, fade in and smoothing, after the generator.
 ghost use mathlib.Core.Path.{_≡_};
-ghost use Rattle.voice.specs.Output.{newOutput, gainOf, laterOf, capturedOf, fadedOf, smoothedOf, putOut, secondOf, secondValue, posted};
+ghost use mathlib.Core.Bool.{cond};
+ghost use Rattle.voice.specs.Source.{isPath};
+ghost use Rattle.voice.specs.Output.{newOutput, gainOf, laterOf, capturedOf, fadedOf, smoothedOf, putOut, secondValue, posted};
 use settings::LfoType;
 use settings::Smooth;
 
@@ -131,7 +133,7 @@ fn post(smooth: Smooth, from: Channel, value: f32) -> Channel
 
 // The second output: of a path as the first, and of another type as it was.
 fn second(kind: LfoType, smooth: Smooth, from: Channel, value: f32, c: Channel) -> Channel
-    ensures { λ r. ⌜ r ≡ secondOf kind (putOut smooth from value) c ⌝ }
+    ensures { λ r. ⌜ r ≡ cond (isPath kind) (putOut smooth from value) c ⌝ }
 {
     match kind {
         LfoType::Drawn => c,

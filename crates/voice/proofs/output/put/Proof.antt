@@ -1,6 +1,7 @@
 -- `put` meets its contract. Assumes nothing.
 use borrow.Author.Needs.{needs}
-use Rattle.voice.specs.Output.{postOf, posted}
+use Rattle.voice.specs.Output.{gainOf, postOf, posted}
+use Rattle.voice.proofs.Outputs.{second-by}
 use Rattle.voice.proofs.output.put.Statement.{statement}
 use Rattle.voice.proofs.output.put.Tie as tie
 
@@ -10,7 +11,8 @@ returns c =
     let s = c .before .before in
     let l = s .before .before in
     let k = l .before .before .before .before .before in
-    simp (c .later .ensures, c .before .second-value .ensures, s .second .ensures, s .before .post .ensures, l .faded .ensures .0, l .faded .ensures .1, l .before .captured2 .ensures, l .before .before .captured .ensures, k .gain .ensures)
+    let o = k .before .args .o in
+    simp (c .later .ensures, c .before .second-value .ensures, s .second .ensures, s .before .post .ensures, l .faded .ensures .0, l .faded .ensures .1, l .before .captured2 .ensures, l .before .before .captured .ensures, k .gain .ensures, ← second-by (k .before .args .kind) (k .before .args .smooth) (gainOf (o .t) (o .delay) (o .fade) (o .«inv_fade»)) (o .capture) (k .before .args .y) (o .y))
 
 pub put-spec : {M : Type 1} → statement M
 put-spec =
