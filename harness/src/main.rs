@@ -3,25 +3,42 @@
 //!
 //!     cargo run --release --offline -- compare all
 //!     cargo run --release --offline -- compare floats 100000000 7
+//!     cargo run --release --offline -- compare runs 1000000 7 300000000
 //!     cargo run --release --offline -- vectors chaos
 //!
 //! Only a release build compares: Rust leaves open which zero `max` gives for −0 and 0, and a debug build gives another one than a release
 //! build. Ours gives 0 (document 01).
 include!(concat!(env!("OUT_DIR"), "/source.rs"));
 
+mod adverse;
 mod choices;
 mod clock;
 mod curves;
+mod drawn;
 mod ffi;
+mod figures;
 mod floats;
 mod generators;
 mod numbers;
+mod player;
 mod position;
+mod questions;
+mod reading;
+mod reference;
+mod refused;
+mod run;
+mod runs;
+mod shrunk;
 mod simd;
+mod spoiled;
+mod stored;
 mod tally;
 mod values;
 mod vectors;
+mod written;
 
+use runs::Wanted;
+use std::path::Path;
 use std::time::Instant;
 use tally::Tally;
 use values::Values;
@@ -40,8 +57,19 @@ const SUBJECTS: [(&str, Compare, u64); 7] = [
 ];
 
 const USAGE: &str = "usage: harness vectors chaos|curves
+       harness vectors runs DIR
+       harness show BYTES
        harness compare SUBJECT|all [COUNT] [SEED]
-SUBJECT is floats, generators, curves, choices, position, clock or numbers; COUNT the least number of values of each.";
+       harness compare runs [COUNT] [SEED] [FRAMES] [without-phase]
+       harness compare runs long
+SUBJECT is floats, generators, curves, choices, position, clock or numbers; COUNT the least number of values of each.
+BYTES are those of a run, in hexadecimal.
+Of runs, COUNT is the least number of runs and FRAMES of frames; run i has the seed SEED + i.";
+
+/// The runs of a short comparison.
+const RUNS: u64 = 100_000;
+/// Whether `compare all` plays runs with phase reads: to be true with the landing that brings that call.
+const PHASE: bool = false;
 
 fn number(word: &str) -> u64 {
     word.replace('_', "").parse().unwrap_or_else(|_| usage())
@@ -52,10 +80,16 @@ fn usage() -> ! {
     std::process::exit(2)
 }
 
-/// Compares a subject, or all, and answers whether every difference is a known one.
-fn compare(subject: &str, count: Option<u64>, seed: u64) -> bool {
+fn is_release() -> bool {
     if cfg!(debug_assertions) {
         eprintln!("build with --release");
+    }
+    !cfg!(debug_assertions)
+}
+
+/// Compares a subject, or all, and answers whether every difference is a known one.
+fn compare(subject: &str, count: Option<u64>, seed: u64) -> bool {
+    if !is_release() {
         return false;
     }
     let mut right = true;
@@ -72,6 +106,9 @@ fn compare(subject: &str, count: Option<u64>, seed: u64) -> bool {
     if compared == 0 {
         usage();
     }
+    if subject == "all" && ffi::ORACLE.is_some() {
+        right &= runs(&[], PHASE);
+    }
     println!(
         "{compared} values compared: {}",
         if right {
@@ -81,6 +118,32 @@ fn compare(subject: &str, count: Option<u64>, seed: u64) -> bool {
         }
     );
     right
+}
+
+/// Compares whole runs, with phase reads or without: COUNT, SEED, FRAMES.
+fn runs(words: &[&str], phase: bool) -> bool {
+    if !is_release() {
+        return false;
+    }
+    if words.len() > 3 {
+        usage();
+    }
+    let word = |i: usize, other: u64| words.get(i).map_or(other, |w| number(w));
+    let wanted = Wanted {
+        runs: word(0, RUNS),
+        seed: word(1, 1),
+        frames: word(2, 0),
+        phase,
+    };
+    runs::compare(ffi::ORACLE, &wanted)
+}
+
+fn stored_runs(dir: &str) -> bool {
+    let release = is_release();
+    if release {
+        stored::runs(Path::new(dir));
+    }
+    release
 }
 
 fn main() {
@@ -95,6 +158,15 @@ fn main() {
             vectors::curves();
             true
         }
+        ["vectors", "runs", dir] => stored_runs(dir),
+        ["show", hex] => {
+            let bytes = shrunk::unhex(hex).unwrap_or_else(|| usage());
+            shrunk::show(&bytes, ffi::ORACLE);
+            true
+        }
+        ["compare", "runs", "long"] => runs::compare_long(ffi::ORACLE),
+        ["compare", "runs", ref rest @ .., "without-phase"] => runs(rest, false),
+        ["compare", "runs", ref rest @ ..] => runs(rest, true),
         ["compare", subject] => compare(subject, None, 1),
         ["compare", subject, count] => compare(subject, Some(number(count)), 1),
         ["compare", subject, count, seed] => compare(subject, Some(number(count)), number(seed)),

@@ -2,6 +2,7 @@
 //! functions, because the module itself cannot be named from outside. A choice is opened as words, in the order of crates/exports: its code,
 //! then its fields, a float by its bits.
 use super::*;
+use crate::player::{Heard, Supplied};
 
 // chaos.rs
 impl Lfo {
@@ -178,5 +179,121 @@ impl Lfo {
         let (mut xs, mut ys) = ([0.0; MAX_POINTS], [0.0; MAX_POINTS]);
         path.modulated(buses, &mut xs, &mut ys);
         path_segment(path, &xs, &ys, t).eval(t)
+    }
+}
+
+// ---- a block with supplied numbers
+//
+// The source computes the coefficient in `prepare`, a strength where a segment is found, and keeps the times of a path private to shape.rs. So
+// the block's coefficient is set, a segment found takes the supplied strength, and a path's segment is found by the supplied times here.
+
+// A path's segment at t by the times that the supplied legs give. What holds a value does not depend on them; of the others, the source gives
+// the coefficients, by a path of the segment's two points.
+fn supplied_segment(path: &Path, times: &[f32], xs: &[f32], ys: &[f32], t: f32) -> PathSegment {
+    let found = path_segment(path, xs, ys, t);
+    if found.inv_w == 0.0 {
+        return found;
+    }
+    let a = times.iter().rposition(|at| *at <= t).unwrap_or(0);
+    let b = (a + 1) % path.len();
+    let two = Path::new(&[path.points()[a], path.points()[b]], false);
+    PathSegment {
+        lo: times[a],
+        hi: times[a + 1],
+        t0: times[a],
+        inv_w: 1.0 / (times[a + 1] - times[a]),
+        c: path_segment(&two, &[xs[a], xs[b]], &[ys[a], ys[b]], 0.0).c,
+    }
+}
+
+// The supplied strength of the segment's first point, where the segment is a curve.
+fn strengthen(segment: &mut Segment, xs: &[f32], strengths: &[f32]) {
+    if segment.inv_w != 0.0
+        && let Some(i) = xs.iter().rposition(|x| *x <= segment.lo)
+    {
+        segment.e = strengths[i];
+    }
+}
+
+impl Lfo {
+    // `render_with`, the segments taking their strengths and times from what is supplied.
+    fn stretch(
+        &self,
+        block: &Block,
+        voice: &mut LfoVoice,
+        (from, to): (usize, usize),
+        supplied: &Supplied,
+        heard: &mut Heard,
+        emit: &mut impl FnMut(usize, f32, f32),
+    ) {
+        self.begin(block, voice, from);
+        let s = &self.settings;
+        let one_shot = s.mode == Mode::OneShot;
+        for k in from..to {
+            let mut c = self.cycles(block, voice, k);
+            if let Some(first) = block.swing {
+                c = swung(c, first);
+            }
+            heard.last = Some(c);
+            heard.zeros |= one_shot && c == 0.0 && c.is_sign_negative();
+            if let (LfoType::Path, Some(times)) = (s.kind, &supplied.times) {
+                let p = position(s.mode, s.direction, c, None) as f32;
+                if !voice.path_seg.contains(p) {
+                    voice.path_seg =
+                        supplied_segment(&self.path, times, &voice.xs, &voice.ys, p);
+                }
+            }
+            let stage = self.stage(block, voice, k);
+            if s.kind == LfoType::Drawn && stage.changed {
+                let n = self.shape.len();
+                strengthen(&mut voice.seg, &voice.xs[..n], &supplied.strengths);
+            }
+            let (x, y) = self.raw(block, voice, stage);
+            let (x, y) = post(block, voice, stage, x, y, s.kind == LfoType::Path);
+            heard.zeros |= voice.chaos[2] == 0.0 && voice.chaos[2].is_sign_negative();
+            emit(k, x, y);
+        }
+    }
+
+    /// `process_scalar` with one voice, its few lines and those of `render_parts` written anew, so that supplied numbers can stand in for
+    /// computed ones: the block's coefficient, each segment's strength, and, where they are not the source's own, the times of the path.
+    pub fn play_(
+        &mut self,
+        voice: &mut LfoVoice,
+        transport: &Transport,
+        (frames, restart): (usize, Option<usize>),
+        supplied: &Supplied,
+        mut emit: impl FnMut(usize, f32, f32),
+    ) -> (Block, Heard) {
+        let mut block = self.prepare(transport, frames);
+        block.smooth = supplied.smooth;
+        let mut heard = Heard {
+            last: None,
+            zeros: transport.tempo == 0.0 && transport.tempo.is_sign_negative(),
+        };
+        let at = restart.map(|at| at.min(frames));
+        let first = (0, at.unwrap_or(frames));
+        self.stretch(&block, voice, first, supplied, &mut heard, &mut emit);
+        if let Some(at) = at {
+            self.trigger(&block, voice);
+            self.stretch(&block, voice, (at, frames), supplied, &mut heard, &mut emit);
+        }
+        (block, heard)
+    }
+
+    /// `Shape::value` with supplied strengths.
+    pub fn shape_at_(shape: &Shape, strengths: &[f32], x: f32) -> f32 {
+        let xs: Vec<f32> = shape.points().iter().map(|p| p.x).collect();
+        let ys: Vec<f32> = shape.points().iter().map(|p| p.y).collect();
+        let mut segment = drawn_segment(shape, &xs, &ys, x);
+        strengthen(&mut segment, &xs, strengths);
+        segment.eval(x)
+    }
+
+    /// `Path::value` with the times that supplied legs give.
+    pub fn path_at_(path: &Path, times: &[f32], t: f32) -> (f32, f32) {
+        let (mut xs, mut ys) = ([0.0; MAX_POINTS], [0.0; MAX_POINTS]);
+        path.modulated(&[], &mut xs, &mut ys);
+        supplied_segment(path, times, &xs, &ys, t).eval(t)
     }
 }

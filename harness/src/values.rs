@@ -298,7 +298,7 @@ impl Values {
         }
     }
 
-    fn song_position(&mut self) -> f64 {
+    pub fn song_position(&mut self) -> f64 {
         match self.below(6) {
             0 => self.of(&[
                 0.0,

@@ -1,12 +1,12 @@
 -- What the questions leave of a call that is accepted, of which `firstNo` is 0. Assumes nothing.
 use Prim.Native.Nat.{ℕ, zero, suc, _+_, _-_, _^_, _≤_, _<_, min}
-use mathlib.Core.Path.{_≡_, refl, sym, _∙_, subst}
+use mathlib.Core.Path.{_≡_, refl, sym, subst}
 use mathlib.Core.Logic.{inl, inr}
-use mathlib.Core.Bool.{Bool, true, false, _&&_, cond, false≢true}
+use mathlib.Core.Bool.{Bool, true, false, cond}
 use mathlib.Core.List.{List, _∷_}
 use native.Mathlib.Nat.{eq-or-lt-of-le, le-of-suc-le-suc, min-le-right}
 use native.Mathlib.Omega.{arith}
-use borrow.Author.Tests.{ltb-true, leb-true, eqb-true, lt-ltb, eq-eqb}
+use borrow.Author.Tests.{ltb-true, leb-true, eqb-true, eq-eqb}
 use lib.Dec.{T, eqb, ltb, leb}
 use lib.ListN.{length, getD, List·getD-append}
 use lib.IntN.{pos}
@@ -81,7 +81,7 @@ use Rattle.questions.proofs.Laws.{and-true, three, five, seven}
 
 -- ---- the laws that the others cite
 
--- a question that is not the one that was failed was passed
+-- where no question is failed, the first is passed, and none of the rest is failed (no question has the number 0)
 pub passed : (k : ℕ) (test : Bool) (rest : List Question) → firstNo ((suc k, test) ∷ rest) ≡ 0 → (test ≡ true) × (firstNo rest ≡ 0)
 unfolding firstNo
 passed k true rest h = (refl, h)
@@ -199,7 +199,8 @@ known-settings c h =
     with-smooth KnownSettings tt (smoothAt (c .smooth)) λ smooth grid.
     record { rate-number = number; phase-number = finite-number (c .phase) (yes-so (all .4)); grid-in = grid }
 
-pub settings-in : (c : SettingsCodes) → firstNo (settingsQuestions c) ≡ 0 → (s : Settings) → settingsAt c ≡ SettingsCode.Known s → s .«grid_x» < 2 ^ 16 → SettingsIn s
+pub settings-in : (c : SettingsCodes) → firstNo (settingsQuestions c) ≡ 0
+    → (s : Settings) → settingsAt c ≡ SettingsCode.Known s → s .«grid_x» < 2 ^ 16 → SettingsIn s
 settings-in c h s e = subst KnownSettings e (known-settings c (settings-accepted c h .finite-all))
 
 -- ---- a transport
@@ -275,8 +276,8 @@ pub record BlockAccepted (played : ℕ) (c : TransportCodes) (frames : ℕ) (res
   pub room-y : frames ≤ y-len
   pub within-life : played + frames ≤ 2 ^ 40
 
-pub block-accepted : (played : ℕ) (c : TransportCodes) (frames : ℕ) (restart : RestartCodes) (x-len y-len : ℕ) → firstNo (blockQuestions played c frames restart x-len y-len) ≡ 0
-    → BlockAccepted played c frames restart x-len y-len
+pub block-accepted : (played : ℕ) (c : TransportCodes) (frames : ℕ) (restart : RestartCodes) (x-len y-len : ℕ)
+    → firstNo (blockQuestions played c frames restart x-len y-len) ≡ 0 → BlockAccepted played c frames restart x-len y-len
 unfolding blockQuestions
 block-accepted played c frames restart x-len y-len h =
     let q1 = passed 0 _ _ h in
@@ -324,14 +325,18 @@ pub record ShapeAccepted (others : Bool) (points : List PointCodes) (count : ℕ
   pub others-finite : others ≡ true
   pub points-finite : (k : ℕ) → k < min count 64 → FinitePoint (getD (givenPoints points strengths (min count 64)) k noPoint)
   pub length-is : length strengths ≡ min count 64
+  pub index-below : loopback .code ≡ 1 → loopback .index < min count 64
   pub loopback-kept : within (loopbackOf loopback) (min count 64) ≡ loopbackOf loopback
   pub strengths-in : (k : ℕ) → k < min count 64 → Between f32-1/16 (getD strengths k nan) f32-16
+
+index-in : (c : LoopbackCodes) (n : ℕ) → loopbackBelow c n ≡ true → c .code ≡ 1 → c .index < n
+index-in c n h e = ltb-true _ _ (rw (eq-eqb (c .code) 1 e) at h)
 
 below-kept : (c : LoopbackCodes) (n : ℕ) → loopbackBelow c n ≡ true → within (loopbackOf c) n ≡ loopbackOf c
 unfolding within loopbackOf
 below-kept c n = at (eqb (c .code) 1)
   where
-    at : (b : Bool) → cond b (ltb (c .index) n) true ≡ true → within (cond b (Loopback.At (c .index)) Loopback.None) n ≡ cond b (Loopback.At (c .index)) Loopback.None
+    at : (b : Bool) → cond b (ltb (c .index) n) true ≡ true → let l = cond b (Loopback.At (c .index)) Loopback.None in within l n ≡ l
     at true h = rw h
     at false h = refl
 
@@ -350,6 +355,7 @@ shape-accepted others points count loopback strengths h =
       others-finite = floats .2;
       points-finite = λ k l. subst FinitePoint (sym (getD-padded _ 64 blank (min count 64) k noPoint l)) (point-finite _ _ (every-so _ _ (floats .0) k l));
       length-is = size;
+      index-below = λ e. index-in loopback (min count 64) (q4 .0) e;
       loopback-kept = below-kept loopback (min count 64) (q4 .0);
       strengths-in = λ k l. between-so _ _ _ (every-so (λ i. strengthIn (getD strengths i nan)) _ (q5 .0) k (omega arith));
     }
@@ -371,8 +377,8 @@ pub record PathAccepted (others : Bool) (count closed : ℕ) (legs : List Float)
   pub legs-short : length legs ≤ 64
   pub legs-in : Legs (padded 64 f32-0 legs) (segmentsOf (min count 64) (isYes closed))
 
-pub path-accepted : (others : Bool) (points : List PathPointCodes) (count closed : ℕ) (legs : List Float) → firstNo (pathQuestions others points count closed legs) ≡ 0
-    → PathAccepted others count closed legs
+pub path-accepted : (others : Bool) (points : List PathPointCodes) (count closed : ℕ) (legs : List Float)
+    → firstNo (pathQuestions others points count closed legs) ≡ 0 → PathAccepted others count closed legs
 unfolding pathQuestions
 path-accepted others points count closed legs h =
     let q1 = passed 0 _ _ h in
@@ -384,5 +390,7 @@ path-accepted others points count closed legs h =
       others-finite = three (every (λ k. pathPointFinite (getD points k noPathPointCodes)) (min count 64)) (everyOf finite legs) others (q2 .0) .2;
       length-is = size;
       legs-short = omega (arith, segments-most (min count 64) (isYes closed), min-le-right count 64);
-      legs-in = λ k l. subst (λ (x : Float). Between f32-0 x f32-2) (sym (List·getD-append legs _ nan k (omega arith))) (between-so _ _ _ (every-so (λ i. legIn (getD legs i nan)) _ (q5 .0) k (omega arith)));
+      legs-in = λ k l.
+          subst (λ (x : Float). Between f32-0 x f32-2) (sym (List·getD-append legs _ nan k (omega arith)))
+          (between-so _ _ _ (every-so (λ i. legIn (getD legs i nan)) _ (q5 .0) k (omega arith)));
     }

@@ -53,7 +53,8 @@ five a b c d e h =
     let p = three a b c (q .0) in
     (p .0, p .1, p .2, q .1, q .2)
 
-pub seven : (a b c d e f g : Bool) → (a && b && c && d && e && f && g) ≡ true → (a ≡ true) × (b ≡ true) × (c ≡ true) × (d ≡ true) × (e ≡ true) × (f ≡ true) × (g ≡ true)
+pub seven : (a b c d e f g : Bool) → (a && b && c && d && e && f && g) ≡ true
+    → (a ≡ true) × (b ≡ true) × (c ≡ true) × (d ≡ true) × (e ≡ true) × (f ≡ true) × (g ≡ true)
 seven a b c d e f g h =
     let q = three (a && b && c && d && e) f g h in
     let p = five a b c d e (q .0) in

@@ -1,6 +1,6 @@
 -- The questions that are put to each call, in document 01's sequence, each with its number; the first "no" gives the answer. Assumes nothing.
 use Prim.Native.Nat.{ℕ, _+_, _^_, min}
-use mathlib.Core.Bool.{Bool, true, _&&_, cond}
+use mathlib.Core.Bool.{Bool, _&&_, cond}
 use mathlib.Core.List.{List, [], _∷_}
 use lib.Dec.{eqb, ltb, leb}
 use lib.ListN.{length, getD}

@@ -16,7 +16,6 @@ use Rattle.curves.specs.declared.ModCodes.{ModCodes}
 use Rattle.curves.specs.declared.PointCodes.{PointCodes}
 use Rattle.curves.specs.declared.PathPointCodes.{PathPointCodes}
 use Rattle.curves.specs.declared.LoopbackCodes.{LoopbackCodes}
-use Rattle.curves.specs.Given.{noPointCodes, noPathPointCodes}
 use Rattle.questions.specs.Limits.{f32-1/16, f32-16, f64-64, f64-1000, f64-768000, f64-2147483647, f64-minus2147483648}
 
 -- a test of 0, 1, .. n - 1

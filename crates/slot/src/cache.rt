@@ -8,7 +8,7 @@ use voice::Kept;
 use voice::MadeFor;
 ghost use mathlib.Core.Path.{_≡_};
 ghost use Prim.Native.Nat.{_≤_};
-ghost use Rattle.slot.specs.Cached.{newCache, freshCache, isCurrent, currentOf};
+ghost use Rattle.slot.specs.Cached.{newCache, freshCache, isCurrent};
 
 pub struct Cache {
     pub lists: Lists,
@@ -32,7 +32,7 @@ impl Cache {
 }
 
 // The lists made anew, and no segment kept.
-fn refreshed(kind: LfoType, shape: Shape, path: Path, buses: &[f32; POINT_BUSES]) -> Cache
+pub fn refreshed(kind: LfoType, shape: Shape, path: Path, buses: &[f32; POINT_BUSES]) -> Cache
     requires { ⌜ (shape .len ≤ 64) × (path .len ≤ 64) ⌝ }
     ensures { λ r. ⌜ r ≡ freshCache kind shape path (now (buses .entry)) ⌝ }
 {
@@ -46,29 +46,11 @@ fn refreshed(kind: LfoType, shape: Shape, path: Path, buses: &[f32; POINT_BUSES]
 }
 
 // Whether the lists are those of this type.
-fn is_current(fresh: bool, made_for: MadeFor, kind: LfoType) -> bool
+pub fn is_current(fresh: bool, made_for: MadeFor, kind: LfoType) -> bool
     ensures { λ r. ⌜ r ≡ isCurrent fresh «made_for» kind ⌝ }
 {
     if fresh {
         return made_for.is(kind);
     }
     false
-}
-
-// The cache as a stretch of this type begins: as it is where it is that type's, else made anew.
-pub fn current(
-    kind: LfoType,
-    made_for: MadeFor,
-    shape: Shape,
-    path: Path,
-    buses: &[f32; POINT_BUSES],
-    cache: Cache,
-) -> Cache
-    requires { ⌜ (shape .len ≤ 64) × (path .len ≤ 64) ⌝ }
-    ensures { λ r. ⌜ r ≡ currentOf kind «made_for» shape path (now (buses .entry)) cache ⌝ }
-{
-    if is_current(cache.fresh, made_for, kind) {
-        return cache;
-    }
-    refreshed(kind, shape, path, buses)
 }

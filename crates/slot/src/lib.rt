@@ -7,7 +7,6 @@ mod moved;
 mod playing;
 
 pub use cache::Cache;
-pub use cache::current;
 use clock::Clock;
 pub use moved::Lists;
 pub use moved::loop_point;

@@ -2,22 +2,15 @@
 use super::Processed;
 use super::Slot;
 use super::cache::Cache;
-use super::cache::current;
+use super::cache::is_current;
+use super::cache::refreshed;
 use super::moved::loop_point;
 use super::moved::point_count;
 use bank::Pending;
-use bank::Rendered;
-use clock::Block;
-use path::Path;
 use settings::Mode;
-use settings::Settings;
 use settings::Transport;
-use shape::Shape;
-use voice::Voice;
 ghost use mathlib.Core.Path.{_≡_};
-ghost use Rattle.bank.specs.Render.{Stretch};
-ghost use Rattle.bank.specs.Parts.{finishedOf, Plays};
-ghost use Rattle.slot.specs.Moved.{LoopbackIn, curveWith};
+ghost use Rattle.bank.specs.Parts.{finishedOf};
 ghost use Rattle.slot.specs.Slot.{Ready, Processes};
 
 // Whether a block whose last frame has this swung cycle count ends a One-shot.
@@ -31,57 +24,10 @@ pub fn finished(mode: Mode, count: f64) -> bool
     }
 }
 
-// The voice over a block, with the cache's lists lent to it.
-fn play(
-    s: Settings,
-    block: Block,
-    shape: Shape,
-    path: Path,
-    cache: Cache,
-    v: Voice,
-    at: Pending,
-    frames: usize,
-    x: &mut [f32],
-    y: &mut [f32],
-) -> Rendered
-    requires { ⌜ LoopbackIn (shape .loopback) 64 ⌝ }
-    requires { ⌜ Stretch s (curveWith (s .kind) shape path (cache .lists)) block v (cache .kept) 0 frames (now x) (now y) ⌝ }
-    ensures { λ r. ⌜ Plays s (curveWith (s .kind) shape path (cache .lists)) block v at frames (now (x .entry)) (now (y .entry)) r (now (x .exit)) (now (y .exit)) ⌝ }
-{
-    let kind = s.kind;
-    let lists = cache.lists;
-    let kept = cache.kept;
-    let xs = lists.xs;
-    let ys = lists.ys;
-    let es = lists.es;
-    let steps = lists.steps;
-    let times = path.times;
-    let loopback = shape.loopback;
-    let n = point_count(kind, shape.len, path.len);
-    let from = loop_point(kind, loopback, &xs);
-    bank::render_parts(
-        s,
-        block,
-        &xs,
-        &ys,
-        &es,
-        &steps,
-        n,
-        &times,
-        path.closed,
-        from,
-        v,
-        kept,
-        at,
-        frames,
-        x,
-        y,
-    )
-}
-
-// Plays a block of `frames` frames from the transport at its first sample, restarting the voice where `at` says.
+// Plays a block of `frames` frames from the transport at its first sample, restarting the voice where `at` says. The slot's own lists are lent,
+// and a block that finds them current copies the slot twice, in and out.
 pub fn process(
-    slot: Slot,
+    mut slot: Slot,
     transport: Transport,
     at: Pending,
     frames: usize,
@@ -91,37 +37,58 @@ pub fn process(
     requires { ⌜ Ready slot transport frames (now x) (now y) ⌝ }
     ensures { λ r. ⌜ Processes slot transport at frames (now (x .entry)) (now (y .entry)) r (now (x .exit)) (now (y .exit)) ⌝ }
 {
-    let mut lfo = slot.lfo;
-    let settings = lfo.settings;
-    let shape = lfo.shape;
-    let path = lfo.path;
-    let buses = lfo.buses;
-    let clock = lfo.clock;
+    let settings = slot.lfo.settings;
+    let clock = slot.lfo.clock;
     let v = slot.voice;
     let made_for = v.made_for;
-    let before = slot.cache;
     let kind = settings.kind;
     let mode = settings.mode;
     let prepared = clock::prepare(settings, clock, transport, frames as u64);
     let block = prepared.block;
-    let cache = current(kind, made_for, shape, path, &buses, before);
-    let r = play(settings, block, shape, path, cache, v, at, frames, x, y);
+    if !is_current(slot.cache.fresh, made_for, kind) {
+        let shape = slot.lfo.shape;
+        let path = slot.lfo.path;
+        let buses = slot.lfo.buses;
+        let fresh = refreshed(kind, shape, path, &buses);
+        slot.cache = fresh;
+    }
+    let drawn = slot.lfo.shape;
+    let loopback = drawn.loopback;
+    let n = point_count(kind, drawn.len, slot.lfo.path.len);
+    let from = loop_point(kind, loopback, &slot.cache.lists.xs);
+    let kept = slot.cache.kept;
+    let closed = slot.lfo.path.closed;
+    let r = bank::render_parts(
+        settings,
+        block,
+        &slot.cache.lists.xs,
+        &slot.cache.lists.ys,
+        &slot.cache.lists.es,
+        &slot.cache.lists.steps,
+        n,
+        &slot.lfo.path.times,
+        closed,
+        from,
+        v,
+        kept,
+        at,
+        frames,
+        x,
+        y,
+    );
+    let mut lfo = slot.lfo;
     let next = prepared.clock;
     lfo.clock = next;
     let voice = r.voice;
-    let lists = cache.lists;
-    let kept = r.kept;
-    let after = Cache {
+    let lists = slot.cache.lists;
+    let found = r.kept;
+    let cache = Cache {
         lists,
-        kept,
+        kept: found,
         fresh: true,
     };
     Processed {
-        slot: Slot {
-            lfo,
-            voice,
-            cache: after,
-        },
+        slot: Slot { lfo, voice, cache },
         finished: finished(mode, r.count),
     }
 }

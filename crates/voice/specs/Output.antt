@@ -39,6 +39,10 @@ unfoldable pub smoothedOf : Smooth → Float → Float → Float
 smoothedOf Smooth.Off state value = value
 smoothedOf (Smooth.By a) state value = state +₃₂ (value -₃₂ state) ×₃₂ a
 
+-- an output after a sample, of its state there and its faded value
+abbrev pub putOut : Smooth → Channel → Float → Channel
+putOut smooth from value = record { start = from .start; smoothed = smoothedOf smooth (from .smoothed) value }
+
 -- one output after a sample: its last value is what it puts out
 unfoldable pub postOf : Smooth → Float → Bool → Float → Channel → Channel
 postOf smooth g capture raw c =

@@ -1,6 +1,8 @@
 // What a voice puts out: the start value, fade in and smoothing, after the generator.
 ghost use mathlib.Core.Path.{_≡_};
-ghost use Rattle.voice.specs.Output.{newOutput, gainOf, laterOf, capturedOf, fadedOf, smoothedOf, postOf, secondOf, secondValue, posted};
+ghost use mathlib.Core.Bool.{cond};
+ghost use Rattle.voice.specs.Source.{isPath};
+ghost use Rattle.voice.specs.Output.{newOutput, gainOf, laterOf, capturedOf, fadedOf, smoothedOf, putOut, secondValue, posted};
 use settings::LfoType;
 use settings::Smooth;
 
@@ -90,14 +92,23 @@ fn captured(capture: bool, raw: f32, c: Channel) -> Channel
     c
 }
 
-// From the start value to the raw value by the gain.
-fn faded(g: f32, raw: f32, start: f32) -> f32
-    ensures { λ r. ⌜ r ≡ fadedOf g raw start ⌝ }
+// Both outputs before smoothing.
+struct Levels {
+    x: f32,
+    y: f32,
+}
+
+// From the start values to the raw values by the gain, with one test for both.
+fn faded(g: f32, x: f32, start_x: f32, y: f32, start_y: f32) -> Levels
+    ensures { λ r. ⌜ (r .x ≡ fadedOf g x «start_x») × (r .y ≡ fadedOf g y «start_y») ⌝ }
 {
     if g == 1.0 {
-        return raw;
+        return Levels { x, y };
     }
-    raw * g + start * (1.0 - g)
+    Levels {
+        x: x * g + start_x * (1.0 - g),
+        y: y * g + start_y * (1.0 - g),
+    }
 }
 
 // The one-pole smoothing, if any.
@@ -110,25 +121,23 @@ fn smoothed(smooth: Smooth, state: f32, value: f32) -> f32
     }
 }
 
-// One output's start value, fade in and smoothing.
-fn post(smooth: Smooth, g: f32, capture: bool, raw: f32, c: Channel) -> Channel
-    ensures { λ r. ⌜ r ≡ postOf smooth g capture raw c ⌝ }
+// One output after a sample, of its state there and its faded value.
+fn post(smooth: Smooth, from: Channel, value: f32) -> Channel
+    ensures { λ r. ⌜ r ≡ putOut smooth from value ⌝ }
 {
-    let from = captured(capture, raw, c);
-    let value = smoothed(smooth, from.smoothed, faded(g, raw, from.start));
     Channel {
         start: from.start,
-        smoothed: value,
+        smoothed: smoothed(smooth, from.smoothed, value),
     }
 }
 
 // The second output: of a path as the first, and of another type as it was.
-fn second(kind: LfoType, smooth: Smooth, g: f32, capture: bool, raw: f32, c: Channel) -> Channel
-    ensures { λ r. ⌜ r ≡ secondOf kind smooth g capture raw c ⌝ }
+fn second(kind: LfoType, smooth: Smooth, from: Channel, value: f32, c: Channel) -> Channel
+    ensures { λ r. ⌜ r ≡ cond (isPath kind) (putOut smooth from value) c ⌝ }
 {
     match kind {
         LfoType::Drawn => c,
-        LfoType::Path => post(smooth, g, capture, raw, c),
+        LfoType::Path => post(smooth, from, value),
         LfoType::Lorenz => c,
         LfoType::Rossler => c,
         LfoType::SampleAndHold => c,
@@ -155,8 +164,11 @@ pub fn put(kind: LfoType, smooth: Smooth, o: Output, x: f32, y: f32) -> Posted
     let g = gain(o.t, o.delay, o.fade, o.inv_fade);
     let before_x = o.x;
     let before_y = o.y;
-    let after_x = post(smooth, g, o.capture, x, before_x);
-    let after_y = second(kind, smooth, g, o.capture, y, before_y);
+    let from_x = captured(o.capture, x, before_x);
+    let from_y = captured(o.capture, y, before_y);
+    let level = faded(g, x, from_x.start, y, from_y.start);
+    let after_x = post(smooth, from_x, level.x);
+    let after_y = second(kind, smooth, from_y, level.y, before_y);
     let value_y = second_value(kind, y, after_y);
     let output = Output {
         t: later(o.t),

@@ -1,30 +1,50 @@
 -- `evaluate_shape` meets its contract: the questions' number, and where it is 0, the value. Assumes nothing.
-use mathlib.Core.Path.{sym, _∙_}
+use Prim.Native.Nat.{ℕ}
+use mathlib.Core.Path.{_≡_, sym, _∙_}
+use mathlib.Core.Bool.{Bool}
+use mathlib.Core.List.{List}
 use native.Mathlib.Omega.{arith}
 use borrow.Author.Needs.{needs}
 use borrow.Author.Tests.{eq-eqb, ne-eqb}
+use lib.Ieee.{Float}
+use lib.Ieee.Scale.{finite}
+use Rattle.shape.specs.declared.Shape.{Shape}
+use Rattle.shape.specs.Shapes.{shapeValue}
+use Rattle.curves.specs.declared.PointCodes.{PointCodes}
+use Rattle.curves.specs.declared.LoopbackCodes.{LoopbackCodes}
+use Rattle.curves.specs.Given.{givenShape}
+use Rattle.questions.specs.Questions.{firstNo, shapeQuestions}
+use Rattle.evaluate.specs.declared.Value.the-variants.{Refused, At}
 use Rattle.evaluate.specs.Values.{valueOf, evaluatedShape}
-use Rattle.evaluate.proofs.Accepted.{shape-strengths}
+use Rattle.questions.proofs.Facts.{shape-accepted}
 use Rattle.evaluate.proofs.evaluate_shape.Statement.{statement}
 use Rattle.evaluate.proofs.evaluate_shape.Tie as tie
 
+-- of the number n that the questions gave
+module _ (points : List PointCodes) (count : ℕ) (loopback : LoopbackCodes) (strengths : List Float) (x : Float) (others : Bool) (n : ℕ)
+    (o : others ≡ finite x) (a : n ≡ firstNo (shapeQuestions others points count loopback strengths)) where
+  number : firstNo (shapeQuestions (finite x) points count loopback strengths) ≡ n
+  number = rw (← o) (sym a)
+
+  refused : (n ≡ 0 → ⊥) → Refused n ≡ evaluatedShape points count loopback strengths x
+  unfolding evaluatedShape valueOf
+  refused h = rw (number, ne-eqb n 0 h)
+
+  answered : n ≡ 0 → (s : Shape) (v : Float) → s ≡ givenShape points count loopback strengths → v ≡ shapeValue s x
+      → At v ≡ evaluatedShape points count loopback strengths x
+  unfolding evaluatedShape valueOf
+  answered h s v e f = rw (number, eq-eqb n 0 h, f, e)
+
 returns : tie.Need-returns
-unfolding evaluatedShape valueOf
-returns c = rw (← c .before .before .is-finite-f32 .ensures, ← c .before .shape-answer .ensures, ne-eqb _ _ (c .if1 .taken))
+returns c = refused _ _ _ _ _ _ _ (c .before .before .is-finite-f32 .ensures) (c .before .shape-answer .ensures) (c .if1 .taken)
 
 shape-of-requires : tie.Need-shape-of-requires
-shape-of-requires c κs = omega (arith, shape-strengths _ _ _ _ _ (sym (c .before .shape-answer .ensures) ∙ c .if1 .left))
+shape-of-requires c κs = omega (arith, shape-accepted _ _ _ _ _ (sym (c .before .shape-answer .ensures) ∙ c .if1 .left) .length-is)
 
 returns-2 : tie.Need-returns-2
-unfolding evaluatedShape valueOf
 returns-2 c =
-    rw (
-      ← c .before .before .before .before .is-finite-f32 .ensures,
-      ← c .before .before .before .shape-answer .ensures,
-      eq-eqb _ _ (c .before .before .if1 .left),
-      c .value .ensures,
-      c .before .shape-of .ensures .0,
-    )
+    let d = c .before .before in
+    answered _ _ _ _ _ _ _ (d .before .before .is-finite-f32 .ensures) (d .before .shape-answer .ensures) (d .if1 .left) _ _ (c .before .shape-of .ensures .0) (c .value .ensures)
 
 pub evaluate-shape-spec : {M : Type 1} → statement M
 evaluate-shape-spec =

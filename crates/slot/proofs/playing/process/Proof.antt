@@ -1,42 +1,73 @@
 -- `process` meets its contract. Assumes nothing.
 use borrow.Author.Needs.{needs}
-use Rattle.slot.proofs.Blocks.{count-small, loopback-more, block-stretch, block-gives}
+use mathlib.Core.Path.{_≡_, _∙_}
+use mathlib.Core.Logic.{⊎-elim}
+use Rattle.slot.proofs.Blocks.{count-small, loopback-small, block-stretch, block-gives, readied, left-as-it-is, made-anew}
 use Rattle.slot.proofs.playing.process.Statement.{statement}
 use Rattle.slot.proofs.playing.process.Tie as tie
 
 prepare-requires : tie.Need-prepare-requires
-prepare-requires c κs =
-    let s = c .before .before .before .before .before .before .before .before .before .before in
-    count-small _ _ _ _ _ (s .pre)
+prepare-requires c κs = count-small _ _ _ _ _ (c .before .before .before .before .before .pre)
 
-current-requires : tie.Need-current-requires
-current-requires c κs =
+refreshed-requires : tie.Need-refreshed-requires
+refreshed-requires c κs =
     let s = c .before .before .before .before .before .before .before .before .before .before .before .before .before in
     (s .pre .slot-in .shape-short, s .pre .slot-in .path-short)
 
-play-requires : tie.Need-play-requires
-play-requires c κs =
-    let k = c .before .before in
-    let p = k .before .before .before in
-    let s = p .before .before .before .before .before .before .before .before .before .before .before in
-    let h = s .pre in
-    (loopback-more (s .args .slot .lfo .shape .loopback) _ _ (h .slot-in .shape-short) (h .slot-in .loopback-in), block-stretch _ _ _ _ _ h _ _ (p .prepare .ensures) (k .current .ensures))
+-- the slot where the two ways of the test meet
+joined : (j : tie.Joined1) → j .if1 .slot ≡ readied (j .before .before .before .before .before .before .before .before .before .args .t1)
+joined j =
+    let i = j .before .is-current .ensures in
+    ⊎-elim (λ w. w .6 ∙ made-anew _ _ i (w .0 .taken) _ (w .5 .ensures)) (λ w. w .1 ∙ left-as-it-is _ _ i (w .0 .left)) (j .if1 .came)
 
+loop-point-requires : tie.Need-loop-point-requires
+loop-point-requires c κs =
+    let j = c .before .before .before .before in
+    let s = j .before .before .before .before .before .before .before .before .before in
+    loopback-small _ _ _ _ _ (s .pre) _ (joined j)
+
+render-parts-requires : tie.Need-render-parts-requires
+render-parts-requires c κs =
+    let l = c .before .before .before .before .before .before .before .before .before in
+    let n = l .before .before .before in
+    let j = n .before .before in
+    let p = j .before .before .before in
+    let s = p .before .before .before .before .before .before in
+    block-stretch _ _ _ _ _ (s .pre) _ _ _ _ (p .prepare .ensures) (record { slot-is = joined j; points-are = n .point-count .ensures; from-is = l .loop-point .ensures })
+
+-- field by field, so that a refusal names the fact
 returns : tie.Need-returns
 returns c =
-    let r = c .before .before .before .before .before .before .before .before .before in
-    let k = r .before .before .before in
-    let p = k .before .before .before in
-    let s = p .before .before .before .before .before .before .before .before .before .before .before in
-    block-gives _ _ _ _ _ (s .pre) _ _ _ _ _ _ _ (p .prepare .ensures) (k .current .ensures) (r .play .ensures) (c .finished .ensures)
+    let r = c .before .before .before .before .before .before .before .before .before .before in
+    let l = r .before .before .before .before .before .before .before .before .before .before in
+    let n = l .before .before .before in
+    let j = n .before .before in
+    let p = j .before .before .before in
+    let s = p .before .before .before .before .before .before in
+    let g =
+    block-gives _ _ _ _ _ (s .pre) _ _ _ _ _ _ _ _ _ (p .prepare .ensures)
+    (record { slot-is = joined j; points-are = n .point-count .ensures; from-is = l .loop-point .ensures })
+    (r .render-parts .ensures)
+    (c .finished .ensures) in
+    record {
+      lfo-is = g .lfo-is;
+      voice-is = g .voice-is;
+      finished-is = g .finished-is;
+      x-is = g .x-is;
+      y-is = g .y-is;
+      slot-in = g .slot-in;
+    }
 
 pub process-spec : {M : Type 1} → statement M
 process-spec =
     tie.close
     (tie.spec
     prepare-requires
-    current-requires
-    play-requires
+    (λ c κs. search needs)
+    refreshed-requires
+    (λ c κs. search needs)
+    loop-point-requires
+    render-parts-requires
     (λ c κs. search needs)
     (λ c. search needs)
     (λ c. search needs)

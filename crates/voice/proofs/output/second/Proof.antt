@@ -1,6 +1,5 @@
 -- `second` meets its contract. Assumes nothing.
 use borrow.Author.Needs.{needs}
-use Rattle.voice.specs.Output.{secondOf}
 use Rattle.voice.proofs.output.second.Statement.{statement}
 use Rattle.voice.proofs.output.second.Tie as tie
 
@@ -23,23 +22,18 @@ enum-told-5 : tie.Need-enum-told-5
 enum-told-5 c = search needs
 
 returns : tie.Need-returns
-unfolding secondOf
 returns c = rw (c .enum-told .given .1)
 
 returns-2 : tie.Need-returns-2
-unfolding secondOf
 returns-2 c = rw (c .post .ensures, c .before .enum-told2 .given .1)
 
 returns-3 : tie.Need-returns-3
-unfolding secondOf
 returns-3 c = rw (c .enum-told3 .given .1)
 
 returns-4 : tie.Need-returns-4
-unfolding secondOf
 returns-4 c = rw (c .enum-told4 .given .1)
 
 returns-5 : tie.Need-returns-5
-unfolding secondOf
 returns-5 c = rw (c .enum-told5 .given .1)
 
 pub second-spec : {M : Type 1} → statement M

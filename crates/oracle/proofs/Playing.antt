@@ -1,0 +1,75 @@
+-- A block, played and written. Assumes nothing.
+use Prim.Native.Nat.{ℕ, zero, suc, _≤_}
+use mathlib.Core.Path.{_≡_, refl, sym, ap, _∙_}
+use mathlib.Core.Bool.{Bool, true, false, cond}
+use mathlib.Core.List.{List, [], _∷_}
+use native.Mathlib.Omega.{arith}
+use lib.Dec.{eqb}
+use lib.ListN.{length, take, replicate, length-replicate}
+use lib.Ieee.{Float}
+use Rattle.settings.specs.declared.record.TransportCodes.{TransportCodes}
+use Rattle.questions.specs.declared.RestartCodes.{RestartCodes}
+use Rattle.number.specs.declared.Writing.{Writing}
+use Rattle.calls.specs.Calls.{answer, buffer}
+use Rattle.calls.specs.Calls as Calls
+use Rattle.runs.specs.declared.fields.Place.{Place}
+use Rattle.runs.specs.Parser.{read}
+use Rattle.replies.specs.Replies.{listed, Gives}
+use Rattle.player.specs.declared.Player.{Player}
+use Rattle.player.specs.declared.Played.{Played}
+use Rattle.player.specs.Player.{stateOf, Valid}
+use Rattle.player.specs.Promises.{finishedBy, Plays}
+use Rattle.oracle.specs.Asked.{call, sevens, flagOf, howMany, callNumbers, numbers, stateAfter}
+use Rattle.oracle.specs.Output.{givenBy}
+use Rattle.oracle.specs.Promises.{givenOf, turnOf, Turns}
+use Rattle.oracle.proofs.Turning.{turned, same-turns}
+
+-- ---- the buffers
+
+module _ {A : Type 0} (a : A) where
+  take-replicate : (n m : ℕ) → n ≤ m → take n (replicate m a) ≡ replicate n a
+  take-replicate zero m h = refl
+  take-replicate (suc n) zero h = absurd (omega arith)
+  take-replicate (suc n) (suc m) h = ap (λ l. a ∷ l) (take-replicate n m (omega arith))
+
+module _ (m : ℕ) {l : List Float} (e : l ≡ sevens m) where
+  pub sevens-long : length l ≡ m
+  sevens-long = rw e (length-replicate m _)
+
+  pub sevens-first : (n : ℕ) → n ≤ m → take n l ≡ sevens n
+  sevens-first n h = rw e (take-replicate _ n m h)
+
+-- ---- the numbers
+
+pub how-many-small : (n : ℕ) → howMany n ≤ 2
+how-many-small n = by-test (eqb n 0)
+  where
+    by-test : (t : Bool) → cond t 2 1 ≤ 2
+    by-test true = omega arith
+    by-test false = omega arith
+
+by-answer : (t : Bool) (a f : ℕ) → a ∷ cond t (f ∷ []) [] ≡ take (cond t 2 1) (a ∷ f ∷ [])
+by-answer true a f = refl
+by-answer false a f = refl
+
+module _ {p : Player} {t : TransportCodes} {frames : ℕ} {at : RestartCodes} {x y : List Float} {r : Played} {x′ y′ : List Float} (w : Plays p t frames at x y r x′ y′) where
+  pub block-numbers : {n f : ℕ} → n ≡ howMany (r .answer) → f ≡ flagOf (r .finished)
+      → callNumbers (stateOf p) (Calls.block t frames at x y) ≡ listed (take n (r .answer ∷ f ∷ [])) x′ y′
+  unfolding callNumbers
+  block-numbers n-is f-is =
+      rw (n-is, f-is, w .x-is, w .y-is, w .finished-is, w .answer-is)
+      (ap (λ l. listed l (buffer (stateOf p) t frames at x y (λ v. v .x) x) (buffer (stateOf p) t frames at x y (λ v. v .y) y))
+      (by-answer (eqb (answer (stateOf p) (Calls.block t frames at x y)) 0) _ _))
+
+-- ---- a turn
+
+module _ {p : Player} {t : TransportCodes} {frames : ℕ} {at : RestartCodes} {x y : List Float} {r : Played} {x′ y′ : List Float} (w : Plays p t frames at x y r x′ y′)
+    {n f : ℕ} (n-is : n ≡ howMany (r .answer)) (f-is : f ≡ flagOf (r .finished)) where
+  pub block-turned : (run o : List ℕ) (place : ℕ) (next : Place) → next .good ≡ true → {v : Writing} {o′ : List ℕ}
+      → Gives o place (listed (take n (r .answer ∷ f ∷ [])) x′ y′) v o′
+      → Turns run (givenOf p run (read (call (Calls.block t frames at x y)) (next .at))) o place (turnOf v place next (r .player)) o′
+  unfolding givenBy numbers stateAfter
+  block-turned run o place next good g =
+      same-turns
+      (λ most. rw (good, block-numbers w n-is f-is, w .state-is))
+      (turned run o place (listed (take n (r .answer ∷ f ∷ [])) x′ y′) next (r .player) (w .valid) g)

@@ -1,0 +1,87 @@
+-- The calls, by their parts. Assumes nothing.
+use Prim.Native.Nat.{ℕ, zero, suc}
+use mathlib.Core.Path.{_≡_, refl}
+use mathlib.Core.Bool.{Bool, true, false, cond}
+use mathlib.Core.List.{List}
+use lib.ListN.{getD}
+use lib.Ieee.{Float}
+use Rattle.settings.specs.declared.record.SettingsCodes.{SettingsCodes}
+use Rattle.settings.specs.declared.record.TransportCodes.{TransportCodes}
+use Rattle.questions.specs.declared.RestartCodes.{RestartCodes}
+use Rattle.calls.specs.Calls as Calls
+use Rattle.runs.specs.declared.fields.Place.{Place}
+use Rattle.runs.specs.Parser.{Parsed, read, malformed, after, onward, Reads}
+use Rattle.runs.specs.Fields.{number, upTo, f32}
+use Rattle.runs.specs.Records.{settings, transport, restart}
+use Rattle.runs.specs.Curves.{ShapeCodes, PathCodes, shape, path}
+use Rattle.runs.proofs.Laws.{chain, last}
+use Rattle.oracle.specs.Asked.{Asked, call, shapeAt, pathAt, sevens, none, settingsCall, shapeCall, pathCall, busCall, blockCall, shapeAtCall, pathAtCall, byTag, asked}
+use Rattle.oracle.specs.Output.{make}
+
+module _ (run : List ℕ) {from a : Place} where
+  pub settings-call : {c : SettingsCodes} → Reads (settings run) from c a → Reads (settingsCall run) from (call (Calls.settings c)) a
+  unfolding settingsCall
+  settings-call r = chain _ r last
+
+  pub shape-call : {s : ShapeCodes} → Reads (shape run) from s a → Reads (shapeCall run) from (call (Calls.shape (s .points) (s .count) (s .loopback) (s .strengths))) a
+  unfolding shapeCall
+  shape-call r = chain _ r last
+
+  pub path-call : {s : PathCodes} → Reads (path run) from s a → Reads (pathCall run) from (call (Calls.path (s .points) (s .count) (s .closed) (s .legs))) a
+  unfolding pathCall
+  path-call r = chain _ r last
+
+module _ (run : List ℕ) {from a b : Place} where
+  pub bus-call : {k : ℕ} {x : Float} → Reads (number run) from k a → Reads (f32 run) a x b → Reads (busCall run) from (call (Calls.bus k x)) b
+  unfolding busCall
+  bus-call r s = chain _ r (chain _ s last)
+
+  pub shape-at-call : {s : ShapeCodes} {x : Float} → Reads (shape run) from s a → Reads (f32 run) a x b
+      → Reads (shapeAtCall run) from (shapeAt (s .points) (s .count) (s .loopback) (s .strengths) x) b
+  unfolding shapeAtCall
+  shape-at-call r s = chain _ r (chain _ s last)
+
+  pub path-at-call : {s : PathCodes} {t : Float} → Reads (path run) from s a → Reads (f32 run) a t b
+      → Reads (pathAtCall run) from (pathAt (s .points) (s .count) (s .closed) (s .legs) t) b
+  unfolding pathAtCall
+  path-at-call r s = chain _ r (chain _ s last)
+
+  pub making : {c : SettingsCodes} {seed : ℕ} → Reads (settings run) from c a → Reads (number run) a seed b → Reads (make run) from (c, seed) b
+  unfolding make
+  making r s = chain _ r (chain _ s last)
+
+pub block-call : (run : List ℕ) {from a b c d e : Place} {t : TransportCodes} {frames : ℕ} {at : RestartCodes} {x y : ℕ}
+    → Reads (transport run) from t a → Reads (number run) a frames b → Reads (restart run) b at c → Reads (upTo 8192 run) c x d → Reads (upTo 8192 run) d y e
+    → Reads (blockCall run) from (call (Calls.block t frames at (sevens x) (sevens y))) e
+unfolding blockCall
+block-call run r₁ r₂ r₃ r₄ r₅ = chain _ r₁ (chain _ r₂ (chain _ r₃ (chain _ r₄ (chain _ r₅ last))))
+
+-- a tag of no call
+pub other-tag : (tag : ℕ) → (tag ≡ 0 → ⊥) → (tag ≡ 1 → ⊥) → (tag ≡ 2 → ⊥) → (tag ≡ 3 → ⊥) → (tag ≡ 5 → ⊥) → (tag ≡ 6 → ⊥) → (tag ≡ 7 → ⊥) → getD byTag tag none ≡ none
+unfolding byTag
+other-tag zero n₀ n₁ n₂ n₃ n₅ n₆ n₇ = absurd (n₀ refl)
+other-tag (suc zero) n₀ n₁ n₂ n₃ n₅ n₆ n₇ = absurd (n₁ refl)
+other-tag (suc (suc zero)) n₀ n₁ n₂ n₃ n₅ n₆ n₇ = absurd (n₂ refl)
+other-tag (suc (suc (suc zero))) n₀ n₁ n₂ n₃ n₅ n₆ n₇ = absurd (n₃ refl)
+other-tag (suc (suc (suc (suc zero)))) n₀ n₁ n₂ n₃ n₅ n₆ n₇ = refl
+other-tag (suc (suc (suc (suc (suc zero))))) n₀ n₁ n₂ n₃ n₅ n₆ n₇ = absurd (n₅ refl)
+other-tag (suc (suc (suc (suc (suc (suc zero)))))) n₀ n₁ n₂ n₃ n₅ n₆ n₇ = absurd (n₆ refl)
+other-tag (suc (suc (suc (suc (suc (suc (suc zero))))))) n₀ n₁ n₂ n₃ n₅ n₆ n₇ = absurd (n₇ refl)
+other-tag (suc (suc (suc (suc (suc (suc (suc (suc n)))))))) n₀ n₁ n₂ n₃ n₅ n₆ n₇ = refl
+
+-- a tag, and then its call
+pub tag-then : (run : List ℕ) (at : ℕ) {tag : ℕ} {from : Place} → Reads (number run) (record { at = at; good = true }) tag from → asked run at ≡ onward from (getD byTag tag none run)
+unfolding asked after
+tag-then run at {tag} {from} r = rw (← r .is) (by-good (from .good))
+  where
+    by-good : (g : Bool) → after (cond g (read tag (from .at)) malformed) (λ t. getD byTag t none run) ≡ cond g (getD byTag tag none run (from .at)) malformed
+    by-good true = refl
+    by-good false = refl
+
+-- no call is malformed from wherever
+pub onward-none : (run : List ℕ) (from : Place) (tag : ℕ) → getD byTag tag none ≡ none → onward from (getD byTag tag none run) ≡ malformed
+onward-none run from tag e = rw e (by-good (from .good))
+  where
+    by-good : (g : Bool) → _≡_ {A = Parsed Asked} (cond g malformed malformed) malformed
+    by-good true = refl
+    by-good false = refl

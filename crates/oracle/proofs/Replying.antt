@@ -1,0 +1,83 @@
+-- From what was read and made to a reply. Assumes nothing.
+use Prim.Native.Nat.{ℕ, _≤_}
+use mathlib.Core.Path.{_≡_, refl, sym, ap, _∙_}
+use mathlib.Core.Bool.{true, false}
+use mathlib.Core.List.{List, [], _∷_}
+use native.Mathlib.Omega.{arith}
+use lib.Dec.{eqb}
+use lib.ListN.{length, take}
+use Rattle.settings.specs.declared.record.SettingsCodes.{SettingsCodes}
+use Rattle.questions.specs.Questions.{firstNo, settingsQuestions}
+use Rattle.calls.specs.Calls.{Call, answer}
+use Rattle.runs.specs.declared.fields.Place.{Place}
+use Rattle.runs.specs.Parser.{Parsed, malformed, onward, Reads}
+use Rattle.runs.proofs.Laws.{well-formed, ill-formed}
+use Rattle.player.specs.declared.Player.{Player}
+use Rattle.player.specs.declared.Made.{Made}
+use Rattle.player.specs.declared.Changed.{Changed}
+use Rattle.player.specs.Player.{stateOf, Valid}
+use Rattle.player.specs.Promises.{Makes, Changes}
+use Rattle.oracle.specs.declared.Reply.{Reply}
+use Rattle.oracle.specs.Asked.{Asked, call, callNumbers, numbers, stateAfter}
+use Rattle.oracle.specs.Output.{givenBy, make, givenFrom}
+use Rattle.oracle.specs.Promises.{givenOf, replyOf, nowhere, Says, Replies, Begins}
+
+-- what a reply to the call a says
+pub record Answers (p : Player) (a : Asked) (r : Reply) : Type 0 where
+  pub long : length (r .numbers) ≡ 3
+  pub short : r .count ≤ 3
+  pub numbers-are : numbers (stateOf p) a ≡ take (r .count) (r .numbers)
+  pub state-is : stateOf (r .player) ≡ stateAfter (stateOf p) a
+  pub valid : Valid (r .player)
+
+module _ (run : List ℕ) (p : Player) {q : ℕ → Parsed Asked} {from : Place} {a : Asked} {end : Place} (r : Reads q from a end) where
+  pub replies-read : end .good ≡ true → (s : Reply) → s .next ≡ end → Answers p a s → Replies run (givenOf p run (onward from q)) s
+  unfolding givenBy
+  replies-read e s at w =
+      record { long = w .long; short = w .short; given-is = λ most. rw (← r .is, at, e, w .numbers-are, w .state-is); valid = w .valid }
+
+  pub replies-ill : end .good ≡ false → Valid p → Replies run (givenOf p run (onward from q)) (replyOf 255 nowhere p)
+  unfolding givenBy
+  replies-ill e v = record { long = refl; short = omega arith; given-is = λ most. rw (← r .is, e); valid = v }
+
+-- no call
+pub replies-none : (run : List ℕ) (p : Player) (q : Parsed Asked) → q ≡ malformed → Valid p → Replies run (givenOf p run q) (replyOf 255 nowhere p)
+unfolding givenBy
+replies-none run p q e v = record { long = refl; short = omega arith; given-is = λ most. rw e; valid = v }
+
+-- a call that sets something
+pub edit-answers : {p : Player} {c : Call} {r : Changed} → Changes p c r → callNumbers (stateOf p) c ≡ answer (stateOf p) c ∷ []
+    → (end : Place) → Answers p (call c) (replyOf (r .answer) end (r .player))
+unfolding numbers stateAfter
+edit-answers w e end = record { long = refl; short = omega arith; numbers-are = e ∙ ap (λ n. n ∷ []) (sym (w .answer-is)); state-is = w .state-is; valid = w .valid }
+
+-- a call that touches no player
+pub says-answers : {l : List ℕ} {end : Place} {p : Player} {r : Reply} {a : Asked} → Says l end p r → numbers (stateOf p) a ≡ l → stateAfter (stateOf p) a ≡ stateOf p → Valid p
+    → Answers p a r
+says-answers w e e′ v =
+    record { long = w .long; short = w .short; numbers-are = e ∙ w .numbers-are; state-is = ap stateOf (w .player-is) ∙ sym e′; valid = rw (w .player-is) v }
+
+-- ---- making a player
+
+module _ {run : List ℕ} {from : Place} {c : SettingsCodes} {seed : ℕ} {end : Place} (r : Reads (make run) from (c, seed) end) (good : from .good ≡ true) (at : from .at ≡ 0)
+    {m : Made} (w : Makes c seed m) where
+  pub begins-ill : end .good ≡ false → Begins run (replyOf 255 nowhere (m .player))
+  unfolding givenFrom
+  begins-ill e =
+      let q : make run 0 ≡ malformed = rw at at (ill-formed r good e) in
+      record { long = refl; short = omega arith; given-is = rw q; valid = w .valid }
+
+  pub begins-made : end .good ≡ true → eqb (m .answer) 0 ≡ true → m .answer ≡ 0 → Begins run (replyOf 0 end (m .player))
+  unfolding givenFrom
+  begins-made e t z =
+      let q = rw at at (well-formed r good e) in
+      let first : firstNo (settingsQuestions c) ≡ 0 = sym (w .answer-is) ∙ z in
+      let yes : eqb (firstNo (settingsQuestions c)) 0 ≡ true = rw (w .answer-is) at t in
+      record { long = refl; short = omega arith; given-is = rw (q, yes, first, e, w .state-is); valid = w .valid }
+
+  pub begins-refused : end .good ≡ true → eqb (m .answer) 0 ≡ false → Begins run (replyOf (m .answer) nowhere (m .player))
+  unfolding givenFrom
+  begins-refused e t =
+      let q = rw at at (well-formed r good e) in
+      let no : eqb (firstNo (settingsQuestions c)) 0 ≡ false = rw (w .answer-is) at t in
+      record { long = refl; short = omega arith; given-is = rw (q, no, w .answer-is); valid = w .valid }

@@ -1,0 +1,53 @@
+-- The output of a run. Assumes nothing.
+use Prim.Native.Nat.{ℕ, zero, suc, _+_}
+use mathlib.Core.Path.{_≡_}
+use mathlib.Core.Bool.{cond}
+use mathlib.Core.List.{List, [], _∷_, _++_}
+use lib.Dec.{ltb}
+use lib.ListN.{length}
+use Rattle.listlaws.specs.Over.{over}
+use Rattle.settings.specs.declared.record.SettingsCodes.{SettingsCodes}
+use Rattle.questions.specs.Questions.{firstNo, settingsQuestions}
+use Rattle.calls.specs.State.{State}
+use Rattle.calls.specs.Calls.{makes, made}
+use Rattle.replies.specs.Replies.{bytesOf, fits}
+use Rattle.runs.specs.Parser.{Parsed, read, malformed, Parser, _then_, done}
+use Rattle.runs.specs.Fields.{number}
+use Rattle.runs.specs.Records.{settings}
+use Rattle.oracle.specs.Asked.{Asked, asked, numbers, stateAfter}
+
+-- "Where the bytes of a call are malformed, the output ends with the number 255"
+abbrev pub ill : List (List ℕ)
+ill = (255 ∷ []) ∷ []
+
+-- what a call gives, its numbers, and then what `rest` gives to the player after it from the place after it
+unfoldable pub givenBy : State → (State → ℕ → List (List ℕ)) → Parsed Asked → List (List ℕ)
+givenBy p rest malformed = ill
+givenBy p rest (read a at) = numbers p a ∷ rest (stateAfter p a) at
+
+-- What the calls from the place `at` on give to the player p. Each takes a byte or more, so there are no more of them than bytes.
+unfoldable pub given : ℕ → State → List ℕ → ℕ → List (List ℕ)
+given zero p run at = []
+given (suc most) p run at = cond (ltb at (length run)) (givenBy p (λ q. given most q run) (asked run at)) []
+
+-- "The run begins with making a player"
+unfoldable pub make : Parser (SettingsCodes × ℕ)
+make = settings then λ c. number then λ seed. done (c, seed)
+
+-- "Where making is refused the output ends after its number."
+unfoldable pub givenFrom : List ℕ → Parsed (SettingsCodes × ℕ) → List (List ℕ)
+givenFrom run malformed = ill
+givenFrom run (read (c, seed) at) = (firstNo (settingsQuestions c) ∷ []) ∷ cond (makes c) (given (length run) (made c seed) run at) []
+
+-- Their bytes from the place `at` of a buffer of `len` bytes on: "Where `out` has no room for what a call gives, nothing of that call is written and the output ends there."
+unfoldable pub fitting : ℕ → ℕ → List (List ℕ) → List ℕ
+fitting len at [] = []
+fitting len at (l ∷ rest) = cond (fits len at (length (bytesOf l))) (bytesOf l ++ fitting len (at + length (bytesOf l)) rest) []
+
+unfoldable pub output : List ℕ → ℕ → List ℕ
+output run len = fitting len 0 (givenFrom run (make run 0))
+
+-- what a run writes to the buffer x, which it leaves as y, and the number of bytes
+pub record Runs (run x : List ℕ) (r : ℕ) (y : List ℕ) : Type 0 where
+  pub count : r ≡ length (output run (length x))
+  pub bytes : y ≡ over x 0 (output run (length x))

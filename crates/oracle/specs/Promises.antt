@@ -1,0 +1,75 @@
+-- What the parts of the code promise. Assumes nothing.
+use Prim.Native.Nat.{ℕ, _+_, _≤_}
+use mathlib.Core.Path.{_≡_}
+use mathlib.Core.Bool.{true, false, cond}
+use mathlib.Core.List.{List, [], _∷_, _++_}
+use lib.ListN.{length, take}
+use Rattle.listlaws.specs.Over.{over}
+use Rattle.number.specs.declared.Writing.{Writing}
+use Rattle.number.specs.declared.Writing.the-variants.{Next, NoRoom}
+use Rattle.runs.specs.declared.fields.Place.{Place}
+use Rattle.runs.specs.Parser.{Parsed}
+use Rattle.player.specs.declared.Player.{Player}
+use Rattle.player.specs.Player.{stateOf, Valid}
+use Rattle.oracle.specs.declared.Reply.{Reply}
+use Rattle.oracle.specs.declared.Turn.{Turn}
+use Rattle.oracle.specs.Asked.{Asked}
+use Rattle.oracle.specs.Output.{given, givenBy, make, givenFrom, fitting}
+
+-- what a call as it was read gives, and those behind it
+abbrev pub givenOf : Player → List ℕ → Parsed Asked → ℕ → List (List ℕ)
+givenOf p run a most = givenBy (stateOf p) (λ q. given most q run) a
+
+-- one number, and where the run goes on
+abbrev pub replyOf : ℕ → Place → Player → Reply
+replyOf n at p = record { numbers = n ∷ 0 ∷ 0 ∷ []; count = 1; next = at; player = p }
+
+-- the numbers l, of a call that leaves the player p as it is
+pub record Says (l : List ℕ) (at : Place) (p : Player) (r : Reply) : Type 0 where
+  pub long : length (r .numbers) ≡ 3
+  pub short : r .count ≤ 3
+  pub numbers-are : l ≡ take (r .count) (r .numbers)
+  pub next-is : r .next ≡ at
+  pub player-is : r .player ≡ p
+
+-- nothing more is read
+abbrev pub nowhere : Place
+nowhere = record { at = 0; good = false }
+
+-- what a reply says of the calls from here on: its numbers, and, unless the run ends with it, what the calls behind it give
+abbrev pub replied : List ℕ → Reply → ℕ → List (List ℕ)
+replied run r most = take (r .count) (r .numbers) ∷ cond (r .next .good) (given most (stateOf (r .player)) run (r .next .at)) []
+
+-- the reply r to what gives the numbers `all`
+pub record Replies (run : List ℕ) (all : ℕ → List (List ℕ)) (r : Reply) : Type 0 where
+  pub long : length (r .numbers) ≡ 3
+  pub short : r .count ≤ 3
+  pub given-is : (most : ℕ) → all most ≡ replied run r most
+  pub valid : Valid (r .player)
+
+-- the reply to making a player
+pub record Begins (run : List ℕ) (r : Reply) : Type 0 where
+  pub long : length (r .numbers) ≡ 3
+  pub short : r .count ≤ 3
+  pub given-is : givenFrom run (make run 0) ≡ replied run r (length run)
+  pub valid : Valid (r .player)
+
+-- the run goes on where the numbers were written, and where `next` says so
+abbrev pub turnOf : Writing → ℕ → Place → Player → Turn
+turnOf (Next after) place next p = record { at = next .at; going = next .good; place = after; player = p }
+turnOf NoRoom place next p = record { at = next .at; going = false; place = place; player = p }
+
+-- A turn from the place `place` of x: the bytes that it wrote, and how the rest of the output follows from it.
+pub record Turns (run : List ℕ) (all : ℕ → List (List ℕ)) (x : List ℕ) (place : ℕ) (r : Turn) (y : List ℕ) : Type 0 where
+  pub written : List ℕ
+  pub bytes : y ≡ over x place written
+  pub place-is : r .place ≡ place + length written
+  pub room : place ≤ length x → r .place ≤ length x
+  pub rest : (most : ℕ)
+      → fitting (length x) place (all most) ≡ written ++ cond (r .going) (fitting (length x) (r .place) (given most (stateOf (r .player)) run (r .at))) []
+  pub valid : Valid (r .player)
+
+-- the calls from here on, written from the place `place` of x
+pub record Finishes (all : List (List ℕ)) (x : List ℕ) (place : ℕ) (r : ℕ) (y : List ℕ) : Type 0 where
+  pub place-is : r ≡ place + length (fitting (length x) place all)
+  pub bytes : y ≡ over x place (fitting (length x) place all)

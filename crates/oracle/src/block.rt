@@ -1,0 +1,124 @@
+// Tag 5: playing a block.
+use super::Turn;
+use super::writing::malformed;
+use super::writing::turn_of;
+use super::writing::write_reply;
+use player::Player;
+use questions::RestartCodes;
+use runs::Place;
+use settings::TransportCodes;
+ghost use mathlib.Core.Path.{_≡_};
+ghost use mathlib.Core.Bool.{true};
+ghost use Prim.Native.Nat.{_≤_};
+ghost use lib.ListN.{length};
+ghost use Rattle.player.specs.Player.{Valid};
+ghost use Rattle.runs.specs.Parser.{onward, read};
+ghost use Rattle.calls.specs.Calls as Calls;
+ghost use Rattle.oracle.specs.Asked.{call, sevens, blockCall, flagOf, howMany};
+ghost use Rattle.oracle.specs.Promises.{givenOf, Turns};
+
+// The most elements of a buffer.
+const MOST: usize = 8192;
+
+const LIMIT: u64 = 8193;
+
+fn flag(b: bool) -> u64
+    ensures { λ r. ⌜ r ≡ flagOf b ⌝ }
+{
+    if b { 1 } else { 0 }
+}
+
+// How many numbers come before the buffers.
+fn how_many(answer: u8) -> usize
+    ensures { λ r. ⌜ r ≡ howMany answer ⌝ }
+{
+    if answer == 0 { 2 } else { 1 }
+}
+
+// A buffer as it is before a block.
+fn full() -> [f32; MOST]
+    ensures { λ r. ⌜ r ≡ sevens 8192 ⌝ }
+{
+    [7.0f32; MOST]
+}
+
+// Plays a block into x and y, and writes what it gives.
+fn play(
+    t: TransportCodes,
+    frames: u64,
+    restart: RestartCodes,
+    x: &mut [f32],
+    y: &mut [f32],
+    next: Place,
+    p: Player,
+    out: &mut [u8],
+    place: usize,
+) -> Turn
+    requires { ⌜ Valid p × (length (now x) ≤ 8192) × (length (now y) ≤ 8192) × (next .good ≡ true) ⌝ }
+    ensures { λ r. ⌜ ((run : _) → Turns run (givenOf p run (read (call (Calls.block t frames restart (now (x .entry)) (now (y .entry)))) (next .at))) (now (out .entry)) place r (now (out .exit))) ⌝ }
+{
+    let r = player::play(p, t, frames, restart, x, y);
+    let after = r.player;
+    let numbers = [r.answer as u64, flag(r.finished)];
+    let count = how_many(r.answer);
+    let w = replies::write_lists(out, place, &numbers[..count], x, y);
+    turn_of(w, place, next, after)
+}
+
+// Plays a block into buffers of 7.0, and writes what it gives.
+fn play_anew(
+    t: TransportCodes,
+    frames: u64,
+    restart: RestartCodes,
+    x_len: usize,
+    y_len: usize,
+    next: Place,
+    p: Player,
+    out: &mut [u8],
+    place: usize,
+) -> Turn
+    requires { ⌜ Valid p × («x_len» ≤ 8192) × («y_len» ≤ 8192) × (next .good ≡ true) ⌝ }
+    ensures { λ r. ⌜ ((run : _) → Turns run (givenOf p run (read (call (Calls.block t frames restart (sevens «x_len») (sevens «y_len»))) (next .at))) (now (out .entry)) place r (now (out .exit))) ⌝ }
+{
+    let mut x = full();
+    let mut y = full();
+    play(
+        t,
+        frames,
+        restart,
+        &mut x[..x_len],
+        &mut y[..y_len],
+        next,
+        p,
+        out,
+        place,
+    )
+}
+
+pub fn block_turn(run: &[u8], from: Place, p: Player, out: &mut [u8], place: usize) -> Turn
+    requires { ⌜ Valid p ⌝ }
+    ensures { λ r. ⌜ Turns (now (run .entry)) (givenOf p (now (run .entry)) (onward from (blockCall (now (run .entry))))) (now (out .entry)) place r (now (out .exit)) ⌝ }
+{
+    let t = runs::read_transport(run, from);
+    let frames = runs::read_number(run, t.next);
+    let restart = runs::read_restart(run, frames.next);
+    let x = runs::read_below(run, restart.next, LIMIT);
+    let y = runs::read_below(run, x.next, LIMIT);
+    let next = y.next;
+    if next.good {
+        let codes = t.value;
+        let at = restart.value;
+        return play_anew(
+            codes,
+            frames.value,
+            at,
+            x.value as usize,
+            y.value as usize,
+            next,
+            p,
+            out,
+            place,
+        );
+    }
+    write_reply(out, place, malformed(p))
+}

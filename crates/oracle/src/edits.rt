@@ -1,0 +1,80 @@
+// The calls that set something: tags 0 to 3.
+use super::Reply;
+use super::writing::malformed;
+use super::writing::reply;
+use super::writing::zeros;
+use player::Player;
+use runs::Place;
+ghost use Rattle.player.specs.Player.{Valid};
+ghost use Rattle.runs.specs.Parser.{onward};
+ghost use Rattle.oracle.specs.Asked.{settingsCall, shapeCall, pathCall, busCall};
+ghost use Rattle.oracle.specs.Promises.{givenOf, Replies};
+
+// Tag 0: the settings.
+pub fn settings_reply(run: &[u8], from: Place, p: Player) -> Reply
+    requires { ⌜ Valid p ⌝ }
+    ensures { λ r. ⌜ Replies (now (run .entry)) (givenOf p (now (run .entry)) (onward from (settingsCall (now (run .entry))))) r ⌝ }
+{
+    let c = runs::read_settings(run, from);
+    let next = c.next;
+    if next.good {
+        let codes = c.value;
+        let r = player::set_settings(p, codes);
+        let after = r.player;
+        return reply(r.answer as u64, next, after);
+    }
+    malformed(p)
+}
+
+// Tag 1: the shape.
+pub fn shape_reply(run: &[u8], from: Place, p: Player) -> Reply
+    requires { ⌜ Valid p ⌝ }
+    ensures { λ r. ⌜ Replies (now (run .entry)) (givenOf p (now (run .entry)) (onward from (shapeCall (now (run .entry))))) r ⌝ }
+{
+    let mut buffer = zeros();
+    let s = runs::read_shape(run, from, &mut buffer);
+    let next = s.next;
+    if next.good {
+        let points = s.points;
+        let loopback = s.loopback;
+        let len = s.len;
+        let r = player::set_shape(p, points, s.count, loopback, &buffer[..len]);
+        let after = r.player;
+        return reply(r.answer as u64, next, after);
+    }
+    malformed(p)
+}
+
+// Tag 2: the path.
+pub fn path_reply(run: &[u8], from: Place, p: Player) -> Reply
+    requires { ⌜ Valid p ⌝ }
+    ensures { λ r. ⌜ Replies (now (run .entry)) (givenOf p (now (run .entry)) (onward from (pathCall (now (run .entry))))) r ⌝ }
+{
+    let mut buffer = zeros();
+    let s = runs::read_path(run, from, &mut buffer);
+    let next = s.next;
+    if next.good {
+        let points = s.points;
+        let len = s.len;
+        let r = player::set_path(p, points, s.count, s.closed, &buffer[..len]);
+        let after = r.player;
+        return reply(r.answer as u64, next, after);
+    }
+    malformed(p)
+}
+
+// Tag 3: one bus.
+pub fn bus_reply(run: &[u8], from: Place, p: Player) -> Reply
+    requires { ⌜ Valid p ⌝ }
+    ensures { λ r. ⌜ Replies (now (run .entry)) (givenOf p (now (run .entry)) (onward from (busCall (now (run .entry))))) r ⌝ }
+{
+    let bus = runs::read_number(run, from);
+    let value = runs::read_f32(run, bus.next);
+    let next = value.next;
+    if next.good {
+        let r = player::set_bus(p, bus.value, value.value);
+        let after = r.player;
+        return reply(r.answer as u64, next, after);
+    }
+    malformed(p)
+}

@@ -1,0 +1,42 @@
+// The exported function: a run's bytes in, and what its calls give out (docs/RUN.md). `output` of specs/Output.antt says what it writes.
+mod block;
+mod edits;
+mod turns;
+mod values;
+mod writing;
+
+use player::Player;
+use runs::Place;
+ghost use Rattle.oracle.specs.Output.{Runs};
+
+// What a call other than a block gives: the first `count` of the numbers, the player after it, and the place after it. Where the run ends
+// with this call, that place is not good.
+pub struct Reply {
+    pub numbers: [u64; 3],
+    pub count: usize,
+    pub next: Place,
+    pub player: Player,
+}
+
+// How it goes on after a call's numbers were written: from where in the run, if it goes on; from where in the output; and the player.
+pub struct Turn {
+    pub at: usize,
+    pub going: bool,
+    pub place: usize,
+    pub player: Player,
+}
+
+// Reads the calls of `run` one by one, makes them on one player, and writes what each gives to `out`. Answers how many bytes it wrote.
+#[no_mangle]
+pub extern "C" fn lfo_run(run: &[u8], out: &mut [u8]) -> u64
+    ensures { λ r. ⌜ Runs (now (run .entry)) (now (out .entry)) r (now (out .exit)) ⌝ }
+{
+    let r = turns::made(run);
+    let t = writing::write_reply(out, 0, r);
+    let place = t.place;
+    if t.going {
+        let p = t.player;
+        return turns::calls(run, t.at, out, place, p) as u64;
+    }
+    place as u64
+}

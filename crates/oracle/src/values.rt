@@ -1,0 +1,101 @@
+// The calls that evaluate a shape and a path: tags 6 and 7.
+use super::Reply;
+use super::writing::malformed;
+use super::writing::zeros;
+use evaluate::Value;
+use player::Player;
+use runs::Place;
+ghost use mathlib.Core.Path.{_≡_};
+ghost use Rattle.player.specs.Player.{Valid};
+ghost use Rattle.runs.specs.Parser.{onward};
+ghost use Rattle.oracle.specs.Asked.{shapeAtCall, pathAtCall, valueNumbers, placeNumbers};
+ghost use Rattle.oracle.specs.Promises.{givenOf, Replies, Says};
+
+// The answer's number, and where it is 0 the value's bits.
+fn value_says(v: Value, next: Place, p: Player) -> Reply
+    ensures { λ r. ⌜ Says (valueNumbers v) next p r ⌝ }
+{
+    match v {
+        Value::Refused(n) => {
+            let numbers = [n as u64, 0, 0];
+            Reply {
+                numbers,
+                count: 1,
+                next,
+                player: p,
+            }
+        }
+        Value::At(y) => {
+            let numbers = [0, replies::bits(y), 0];
+            Reply {
+                numbers,
+                count: 2,
+                next,
+                player: p,
+            }
+        }
+    }
+}
+
+// The answer's number, and where it is 0 the bits of X and of Y.
+fn place_says(v: evaluate::Place, next: Place, p: Player) -> Reply
+    ensures { λ r. ⌜ Says (placeNumbers v) next p r ⌝ }
+{
+    match v {
+        evaluate::Place::Refused(n) => {
+            let numbers = [n as u64, 0, 0];
+            Reply {
+                numbers,
+                count: 1,
+                next,
+                player: p,
+            }
+        }
+        evaluate::Place::At { x, y } => {
+            let numbers = [0, replies::bits(x), replies::bits(y)];
+            Reply {
+                numbers,
+                count: 3,
+                next,
+                player: p,
+            }
+        }
+    }
+}
+
+// Tag 6: a shape at x.
+pub fn shape_at_reply(run: &[u8], from: Place, p: Player) -> Reply
+    requires { ⌜ Valid p ⌝ }
+    ensures { λ r. ⌜ Replies (now (run .entry)) (givenOf p (now (run .entry)) (onward from (shapeAtCall (now (run .entry))))) r ⌝ }
+{
+    let mut buffer = zeros();
+    let s = runs::read_shape(run, from, &mut buffer);
+    let x = runs::read_f32(run, s.next);
+    let next = x.next;
+    if next.good {
+        let points = s.points;
+        let loopback = s.loopback;
+        let len = s.len;
+        let v = evaluate::evaluate_shape(points, s.count, loopback, &buffer[..len], x.value);
+        return value_says(v, next, p);
+    }
+    malformed(p)
+}
+
+// Tag 7: a path at t.
+pub fn path_at_reply(run: &[u8], from: Place, p: Player) -> Reply
+    requires { ⌜ Valid p ⌝ }
+    ensures { λ r. ⌜ Replies (now (run .entry)) (givenOf p (now (run .entry)) (onward from (pathAtCall (now (run .entry))))) r ⌝ }
+{
+    let mut buffer = zeros();
+    let s = runs::read_path(run, from, &mut buffer);
+    let t = runs::read_f32(run, s.next);
+    let next = t.next;
+    if next.good {
+        let points = s.points;
+        let len = s.len;
+        let v = evaluate::evaluate_path(points, s.count, s.closed, &buffer[..len], t.value);
+        return place_says(v, next, p);
+    }
+    malformed(p)
+}

@@ -1,0 +1,75 @@
+// A call's numbers, written.
+use super::Reply;
+use super::Turn;
+use number::Writing;
+use player::Player;
+use runs::Place;
+ghost use mathlib.Core.Path.{_≡_};
+ghost use Prim.Native.Nat.{ℕ, _≤_};
+ghost use lib.ListN.{length, replicate};
+ghost use Rattle.floatlaws.specs.Numbers.{f32-0};
+ghost use Rattle.oracle.specs.Promises.{replyOf, nowhere, replied, turnOf, Turns};
+ghost use Rattle.player.specs.Player.{Valid};
+
+// The place of a run that ends.
+pub const NOWHERE: Place = Place { at: 0, good: false };
+
+// Room for the strengths of a shape or the legs of a path.
+pub fn zeros() -> [f32; 4096]
+    ensures { λ r. ⌜ r ≡ replicate 4096 f32-0 ⌝ }
+{
+    [0.0f32; 4096]
+}
+
+// One number.
+pub fn reply(n: u64, next: Place, p: Player) -> Reply
+    ensures { λ r. ⌜ r ≡ replyOf n next p ⌝ }
+{
+    let numbers = [n, 0, 0];
+    Reply {
+        numbers,
+        count: 1,
+        next,
+        player: p,
+    }
+}
+
+// "Where the bytes of a call are malformed, the output ends with the number 255".
+pub fn malformed(p: Player) -> Reply
+    ensures { λ r. ⌜ r ≡ replyOf 255 nowhere p ⌝ }
+{
+    reply(255, NOWHERE, p)
+}
+
+// Where the run goes on after a call whose numbers were written at `place`, or had no room.
+pub fn turn_of(w: Writing, place: usize, next: Place, p: Player) -> Turn
+    ensures { λ r. ⌜ r ≡ turnOf w place next p ⌝ }
+{
+    match w {
+        Writing::Next(after) => Turn {
+            at: next.at,
+            going: next.good,
+            place: after,
+            player: p,
+        },
+        Writing::NoRoom => Turn {
+            at: next.at,
+            going: false,
+            place,
+            player: p,
+        },
+    }
+}
+
+// Writes a reply.
+pub fn write_reply(out: &mut [u8], place: usize, r: Reply) -> Turn
+    requires { ⌜ (length (r .numbers) ≡ 3) × (r .count ≤ 3) × Valid (r .player) ⌝ }
+    ensures { λ t. ⌜ ((run : _) → Turns run (replied run r) (now (out .entry)) place t (now (out .exit))) ⌝ }
+{
+    let numbers = r.numbers;
+    let count = r.count;
+    let next = r.next;
+    let p = r.player;
+    let w = replies::write_numbers(out, place, &numbers[..count]);
+    turn_of(w, place, next, p)
+}

@@ -1,0 +1,51 @@
+-- `numbers_size` meets its contract: the bytes counted and those to come make all of them. Assumes nothing.
+use Prim.Native.Nat.{_+_, _*_, _-_, _≤_}
+use mathlib.Core.Path.{ap, _∙_}
+use native.Mathlib.Numerals.{add-one}
+use native.Mathlib.Omega.{arith}
+use borrow.Author.Needs.{needs}
+use lib.ListN.{length, drop}
+use Rattle.number.specs.Encoded.{encoded}
+use Rattle.replies.proofs.Laws.{Counting, count-none, counted-one, count-small, counted, numbers-at, none-left}
+use Rattle.replies.proofs.numbers_size.Statement.{statement}
+use Rattle.replies.proofs.numbers_size.Tie as tie
+
+abbrev Inv-loop : tie.InvT-loop
+Inv-loop s sum₀ i₀ sum i = (i ≤ length s) × Counting (s) sum (drop i s)
+
+abbrev μ-loop : tie.MeasureT-loop
+μ-loop s sum₀ i₀ sum i = length s - i
+
+loop-holds : tie.Need-loop-holds Inv-loop μ-loop
+loop-holds c = (omega arith, count-none _)
+
+add-sum : tie.Need-add-sum Inv-loop μ-loop
+add-sum c =
+    let small = count-small (c .before .before .before .loop .inv .1) (numbers-at _ _ (c .before .before .loop-test .taken)) (c .size .ensures) in
+    omega (arith, small)
+
+loop-again : tie.Need-loop-again Inv-loop μ-loop
+loop-again c = (
+  omega arith,
+  rw add-one
+      (counted-one (c .before .before .before .loop .inv .1) (numbers-at _ _ (c .before .before .loop-test .taken)) (c .size .ensures)),
+)
+
+returns : tie.Need-returns Inv-loop μ-loop
+returns c = counted (c .before .loop .inv .1) ((none-left _ _ (c .loop-test .left) (c .before .loop .inv .0)))
+
+pub numbers-size-spec : {M : Type 1} → statement M
+numbers-size-spec =
+    tie.close
+    (tie.spec
+    Inv-loop
+    μ-loop
+    loop-holds
+    (λ c. search needs)
+    (λ c. omega arith)
+    (λ c κs. search needs)
+    add-sum
+    (λ c. omega arith)
+    (λ c. omega arith)
+    loop-again
+    returns)

@@ -1,0 +1,67 @@
+-- What is heard of a list of calls up to the next restart or edit, and the transports of the blocks that it takes. Assumes nothing.
+use Prim.Native.Nat.{ℕ, min}
+use mathlib.Core.Bool.{cond}
+use mathlib.Core.List.{List, [], _∷_, _++_}
+use lib.ListN.{take}
+use lib.Ieee.{Float}
+use Rattle.settings.specs.declared.record.TransportCodes.{TransportCodes}
+use Rattle.bank.specs.declared.parts.Pending.{Pending}
+use Rattle.bank.specs.declared.parts.Pending.the-variants.{None, At}
+use Rattle.questions.specs.declared.RestartCodes.{RestartCodes}
+use Rattle.calls.specs.State.{State}
+use Rattle.calls.specs.Blocks.{pendingOf}
+use Rattle.calls.specs.Calls.{Call, settings, shape, path, bus, phase, block, accepts, step, buffer}
+
+-- the player after a list of calls: "Every call gets the player as the last one returned or left it"
+unfoldable pub after : State → List Call → State
+after p [] = p
+after p (c ∷ cs) = after (step p c) cs
+
+-- ---- the frames of one block
+
+-- the x or the y of a frame
+pub data Side : Type 0 where
+  x-side y-side : Side
+
+-- "A frame's x and y are read as its block's call leaves them": the first of the buffer
+unfoldable pub read : Side → State → TransportCodes → ℕ → RestartCodes → List Float → List Float → List Float
+read x-side p c frames restart x y = take frames (buffer p c frames restart x y (λ f. f .x) x)
+read y-side p c frames restart x y = take frames (buffer p c frames restart x y (λ f. f .y) y)
+
+-- ---- of an accepted block and what follows it, what comes before the next restart
+
+-- of its frames and those after it: with no restart all, and else the block's before its restart, "at its frame or, where that lies beyond the end, at the end"
+abbrev pub framesUpTo : Pending → ℕ → List Float → List Float → List Float
+framesUpTo None frames own later = own ++ later
+framesUpTo (At k) frames own later = take (min k frames) own
+
+-- of its transport and those after it: "the block of that next restart included"
+abbrev pub blocksUpTo : Pending → TransportCodes → List TransportCodes → List TransportCodes
+blocksUpTo None own later = own ∷ later
+blocksUpTo (At k) own later = own ∷ []
+
+-- ---- of a list of calls. A refused call and a phase read add nothing and end nothing; an accepted edit, "an accepted call that sets settings, shape, path or a bus", is the end.
+
+-- the frames up to the next restart or edit, "through all accepted blocks"
+unfoldable pub heard : Side → State → List Call → List Float
+heard side p [] = []
+heard side p (settings c ∷ cs) = cond (accepts p (settings c)) [] (heard side (step p (settings c)) cs)
+heard side p (shape points n loopback es ∷ cs) = cond (accepts p (shape points n loopback es)) [] (heard side (step p (shape points n loopback es)) cs)
+heard side p (path points n closed legs ∷ cs) = cond (accepts p (path points n closed legs)) [] (heard side (step p (path points n closed legs)) cs)
+heard side p (bus k z ∷ cs) = cond (accepts p (bus k z)) [] (heard side (step p (bus k z)) cs)
+heard side p (phase c ∷ cs) = heard side (step p (phase c)) cs
+heard side p (block c n restart x y ∷ cs) =
+    cond (accepts p (block c n restart x y))
+    (framesUpTo (pendingOf restart) n (read side p c n restart x y) (heard side (step p (block c n restart x y)) cs))
+    (heard side (step p (block c n restart x y)) cs)
+
+-- the transports of the accepted blocks up to the next restart or edit
+unfoldable pub window : State → List Call → List TransportCodes
+window p [] = []
+window p (settings c ∷ cs) = cond (accepts p (settings c)) [] (window (step p (settings c)) cs)
+window p (shape points n loopback es ∷ cs) = cond (accepts p (shape points n loopback es)) [] (window (step p (shape points n loopback es)) cs)
+window p (path points n closed legs ∷ cs) = cond (accepts p (path points n closed legs)) [] (window (step p (path points n closed legs)) cs)
+window p (bus k z ∷ cs) = cond (accepts p (bus k z)) [] (window (step p (bus k z)) cs)
+window p (phase c ∷ cs) = window (step p (phase c)) cs
+window p (block c n restart x y ∷ cs) =
+    cond (accepts p (block c n restart x y)) (blocksUpTo (pendingOf restart) c (window (step p (block c n restart x y)) cs)) (window (step p (block c n restart x y)) cs)

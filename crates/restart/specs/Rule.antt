@@ -1,0 +1,150 @@
+-- The restart rule: demand 3 in the words of document 01, "The restart rule", clause by clause. It is proved in proofs/RestartRule.antt. Assumes nothing.
+use Prim.Native.Nat.{ℕ, _<_, min}
+use mathlib.Core.Path.{_≡_}
+use mathlib.Core.Logic.{_⊎_}
+use mathlib.Core.Bool.{Bool, true, false, _&&_}
+use mathlib.Core.List.{List, [], _∷_, _++_}
+use lib.ListN.{length, getD, take, drop}
+use lib.Ieee.{Float, nan}
+use Rattle.shape.specs.declared.Shape.{Shape}
+use Rattle.path.specs.declared.Path.{Path}
+use Rattle.settings.specs.declared.choices.LfoType.the-variants.{SampleAndHold}
+use Rattle.settings.specs.declared.choices.Mode.{Mode}
+use Rattle.settings.specs.declared.choices.Mode.the-variants.{Restart, OneShot}
+use Rattle.settings.specs.declared.times.ScaleCodes.{ScaleCodes}
+use Rattle.settings.specs.declared.record.Settings.{Settings}
+use Rattle.settings.specs.declared.record.SettingsCodes.{SettingsCodes}
+use Rattle.settings.specs.declared.record.Transport.{Transport}
+use Rattle.settings.specs.declared.record.TransportCodes.{TransportCodes}
+use Rattle.settings.specs.Codes.{transportAt}
+use Rattle.clock.specs.Ready.{preparedOf}
+use Rattle.voice.specs.declared.Voice.{Voice}
+use Rattle.bank.specs.Render.{voiceAfter}
+use Rattle.bank.specs.Parts.{begun}
+use Rattle.slot.specs.Slot.{slotCurve}
+use Rattle.curves.specs.Given.{isYes}
+use Rattle.questions.specs.declared.RestartCodes.{RestartCodes}
+use Rattle.calls.specs.State.{State}
+use Rattle.calls.specs.Calls.{Call, block, makes, made, answer, step, byTransport}
+use Rattle.restart.specs.Heard.{after, Side, read, heard, window}
+
+-- ---- a restart in a list of calls
+
+-- "A restart is one that an accepted block carries": the list is the calls before the block, the block, and the rest.
+pub record RestartIn (from : State) (calls : List Call) : Type 0 where
+  pub before : List Call
+  pub transport : TransportCodes
+  pub frames : ℕ
+  pub restart : RestartCodes
+  pub x : List Float
+  pub y : List Float
+  pub rest : List Call
+  pub here : calls ≡ before ++ (block transport frames restart x y ∷ rest)
+  pub accepted : answer (after from before) (block transport frames restart x y) ≡ 0
+  pub carried : restart .code ≡ 1
+
+-- the voice after the first k frames of a block of `frames` frames
+abbrev pub voiceAt : State → Transport → ℕ → ℕ → Voice
+voiceAt p t frames k =
+    let s = p .lfo .settings in
+    let q = slotCurve (s .kind) (p .lfo) in
+    let b = preparedOf s (p .lfo .clock) t frames .block in
+    voiceAfter (s .kind) (s .mode) (s .direction) q b 0 k (begun s q b frames (p .voice))
+
+module _ (from : State) (calls : List Call) (r : RestartIn from calls) where
+  -- the player that the block gets, and the one that it leaves
+  abbrev pub stateAt : State
+  stateAt = after from (r .before)
+
+  abbrev pub statePast : State
+  statePast = step stateAt (block (r .transport) (r .frames) (r .restart) (r .x) (r .y))
+
+  -- "at its frame or, where that lies beyond the end, at the end"
+  abbrev pub frameAt : ℕ
+  frameAt = min (r .restart .frame) (r .frames)
+
+  -- "Frames are counted from the first one played at or after it, in that block or a later one, through all accepted blocks; a block of no frames adds none."
+  unfoldable pub framesFrom : Side → List Float
+  framesFrom side = drop frameAt (read side stateAt (r .transport) (r .frames) (r .restart) (r .x) (r .y)) ++ heard side statePast (r .rest)
+
+  -- ""Throughout" means every accepted block from the restart's to the next restart or edit, the block of that next restart included."
+  unfoldable pub throughout : List TransportCodes
+  throughout = r .transport ∷ window statePast (r .rest)
+
+  -- "The random word is the generator's 64 bits, made from the seed and moved on by every draw up to the restart."
+  unfoldable pub wordAt : ℕ
+  wordAt = byTransport 0 (transportAt (r .transport)) λ t. voiceAt stateAt t (r .frames) frameAt .source .rng
+
+-- ---- what is asked of the two lists
+
+-- "in mode Restart or One-shot"
+abbrev pub Restarts : Mode → Type 0
+Restarts mode = (mode ≡ Restart) ⊎ (mode ≡ OneShot)
+
+-- "after the clamping, keeping and sorting ruled here": of a stored shape the points that are kept, each with its strength "at its point's place after the sorting"
+pub record SameShape (a b : Shape) : Type 0 where
+  pub count : a .len ≡ b .len
+  pub points : take (a .len) (a .points) ≡ take (b .len) (b .points)
+  pub loopback : a .loopback ≡ b .loopback
+
+-- and of a stored path, whose legs are there as the times that they give (`same-legs` of proofs/Kept.antt)
+pub record SamePath (a b : Path) : Type 0 where
+  pub count : a .len ≡ b .len
+  pub points : take (a .len) (a .points) ≡ take (b .len) (b .points)
+  pub closed : a .closed ≡ b .closed
+  pub times : a .times ≡ b .times
+
+-- "the two players have equal settings, curve, supplied numbers and stored buses"
+pub record Equal (p q : State) : Type 0 where
+  pub settings : p .lfo .settings ≡ q .lfo .settings
+  pub shape : SameShape (p .lfo .shape) (q .lfo .shape)
+  pub path : SamePath (p .lfo .path) (q .lfo .path)
+  pub buses : p .lfo .buses ≡ q .lfo .buses
+
+-- "sample rate, tempo, bar, swing and scale"; "Nothing else of the transport need be equal"
+pub record Rate : Type 0 where
+  pub «sample_rate» : Float
+  pub tempo : Float
+  pub «beats_per_bar» : Float
+  pub swing : Float
+  pub scale : ScaleCodes
+
+abbrev pub rateOf : TransportCodes → Rate
+rateOf c = record { «sample_rate» = c .«sample_rate»; tempo = c .tempo; «beats_per_bar» = c .«beats_per_bar»; swing = c .swing; scale = c .scale }
+
+-- "Song lock is in force when it is set and the transport plays."
+abbrev pub inForce : Settings → TransportCodes → Bool
+inForce s c = s .«song_lock» && isYes (c .playing)
+
+-- "song lock is not in force and both get one and the same sample rate, tempo, bar, swing and scale"
+pub record Gets (s : Settings) (rate : Rate) (c : TransportCodes) : Type 0 where
+  pub same : rateOf c ≡ rate
+  pub unlocked : inForce s c ≡ false
+
+-- every one of a list
+pub data Every (Q : TransportCodes → Type 0) : List TransportCodes → Type 0 where
+  none : Every Q []
+  more : {c : TransportCodes} {l : List TransportCodes} → Q c → Every Q l → Every Q (c ∷ l)
+
+pub record Hypotheses (p q : State) (calls₁ calls₂ : List Call) (r₁ : RestartIn p calls₁) (r₂ : RestartIn q calls₂) (rate : Rate) : Type 0 where
+  -- "Take in each list any restart in mode Restart or One-shot"
+  pub mode : Restarts (stateAt p calls₁ r₁ .lfo .settings .mode)
+  -- "at which the two players have equal settings, curve, supplied numbers and stored buses"
+  pub equal : Equal (stateAt p calls₁ r₁) (stateAt q calls₂ r₂)
+  -- "from the restart's block on song lock is not in force and both get one and the same sample rate, tempo, bar, swing and scale, unchanged throughout"
+  pub gets₁ : Every (Gets (stateAt p calls₁ r₁ .lfo .settings) rate) (throughout p calls₁ r₁)
+  pub gets₂ : Every (Gets (stateAt q calls₂ r₂ .lfo .settings) rate) (throughout q calls₂ r₂)
+  -- "Sample-and-Hold also needs equal random words at the restart."
+  pub words : stateAt p calls₁ r₁ .lfo .settings .kind ≡ SampleAndHold → wordAt p calls₁ r₁ ≡ wordAt q calls₂ r₂
+
+-- ---- the rule
+
+-- "Take any two lists of calls, each from a player just made": "whatever came before and whatever block lengths each gets, for every n the n-th frame from the restart has the
+-- same x and y in both, if both play it before the next restart or edit."
+abbrev pub RestartRule : Type 0
+RestartRule =
+    (codes₁ codes₂ : SettingsCodes) (seed₁ seed₂ : ℕ) → makes codes₁ ≡ true → makes codes₂ ≡ true
+    → (calls₁ calls₂ : List Call) (r₁ : RestartIn (made codes₁ seed₁) calls₁) (r₂ : RestartIn (made codes₂ seed₂) calls₂) (rate : Rate)
+    → Hypotheses (made codes₁ seed₁) (made codes₂ seed₂) calls₁ calls₂ r₁ r₂ rate
+    → (side : Side) (n : ℕ) → n < length (framesFrom (made codes₁ seed₁) calls₁ r₁ side) → n < length (framesFrom (made codes₂ seed₂) calls₂ r₂ side)
+    → getD (framesFrom (made codes₁ seed₁) calls₁ r₁ side) n nan ≡ getD (framesFrom (made codes₂ seed₂) calls₂ r₂ side) n nan

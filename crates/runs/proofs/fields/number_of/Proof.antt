@@ -1,0 +1,16 @@
+-- `number_of` meets its contract. Assumes nothing.
+use borrow.Author.Needs.{needs}
+use Rattle.runs.proofs.fields.number_of.Statement.{statement}
+use Rattle.runs.proofs.fields.number_of.Tie as tie
+
+returns : tie.Need-returns
+returns c = rw (c .before .r .given .1)
+
+returns-2 : tie.Need-returns-2
+returns-2 c = rw (c .enum-told .given .1)
+
+returns-3 : tie.Need-returns-3
+returns-3 c = rw (c .enum-told2 .given .1)
+
+pub number-of-spec : {M : Type 1} → statement M
+number-of-spec = tie.close (tie.spec (λ c. search needs) (λ c. search needs) (λ c. search needs) returns returns-2 returns-3)

@@ -1,0 +1,123 @@
+-- Shapes and paths in a run, each a line of docs/RUN.md. Assumes nothing.
+use Prim.Native.Nat.{ℕ, zero, suc}
+use mathlib.Core.List.{List, [], _∷_, _++_}
+use lib.Dec.{eqb}
+use lib.ListN.{set, replicate, take}
+use lib.Ieee.{Float}
+use Rattle.floatlaws.specs.Numbers.{f32-0}
+use Rattle.curves.specs.declared.ModCodes.{ModCodes}
+use Rattle.curves.specs.declared.PointCodes.{PointCodes}
+use Rattle.curves.specs.declared.PathPointCodes.{PathPointCodes}
+use Rattle.curves.specs.declared.LoopbackCodes.{LoopbackCodes}
+use Rattle.runs.specs.declared.shapes.ShapeRead.{ShapeRead}
+use Rattle.runs.specs.declared.paths.PathRead.{PathRead}
+use Rattle.runs.specs.Parser.{Parser, _then_, done}
+use Rattle.runs.specs.Fields.{number, upTo, f32, numberIf, byteIf, f32If}
+
+-- "a count above 4,096 of points, strengths or legs" is malformed
+abbrev pub count : Parser ℕ
+count = upTo 4096
+
+-- n of a kind, of which an array has the first 64: `set` past its end changes nothing
+unfoldable pub kept : {A : Type 0} → A → Parser A → ℕ → Parser (List A)
+kept blank p zero = done (replicate 64 blank)
+kept blank p (suc n) = kept blank p n then λ l. p then λ a. done (set l n a)
+
+-- n floats
+unfoldable pub floats : ℕ → Parser (List Float)
+floats zero = done []
+floats (suc n) = floats n then λ l. f32 then λ x. done (l ++ (x ∷ []))
+
+-- strengths = count strength.., legs = count leg..
+unfoldable pub list : Parser (List Float)
+list = count then λ n. floats n
+
+-- mod = 0 | 1 bus depth
+unfoldable pub modulation : Parser ModCodes
+modulation =
+    number then λ code.
+    byteIf (eqb code 1) then λ bus.
+    f32If (eqb code 1) then λ depth.
+    done (record { code = code; bus = bus; depth = depth })
+
+-- what the array has past the last point
+abbrev pub blankMod : ModCodes
+blankMod = record { code = 0; bus = 0; depth = f32-0 }
+
+-- ---- shapes
+
+-- point = x y curve step mod mod (x_mod, then y_mod)
+unfoldable pub point : Parser PointCodes
+point =
+    f32 then λ x.
+    f32 then λ y.
+    f32 then λ curve.
+    number then λ step.
+    modulation then λ x-mod.
+    modulation then λ y-mod.
+    done (record { x = x; y = y; curve = curve; step = step; «x_mod» = x-mod; «y_mod» = y-mod })
+
+abbrev pub blankPoint : PointCodes
+blankPoint = record { x = f32-0; y = f32-0; curve = f32-0; step = 0; «x_mod» = blankMod; «y_mod» = blankMod }
+
+abbrev pub points : ℕ → Parser (List PointCodes)
+points = kept blankPoint point
+
+-- loopback = 0 | 1 index
+unfoldable pub loopback : Parser LoopbackCodes
+loopback = number then λ code. numberIf (eqb code 1) then λ index. done (record { code = code; index = index })
+
+pub record ShapeCodes : Type 0 where
+  pub points : List PointCodes
+  pub count : ℕ
+  pub loopback : LoopbackCodes
+  pub strengths : List Float
+
+-- shape = count point.. loopback strengths
+unfoldable pub shape : Parser ShapeCodes
+shape =
+    count then λ n.
+    points n then λ points.
+    loopback then λ loopback.
+    list then λ strengths.
+    done (record { points = points; count = n; loopback = loopback; strengths = strengths })
+
+-- ---- paths
+
+-- ppoint = x y bend mod mod
+unfoldable pub pathPoint : Parser PathPointCodes
+pathPoint =
+    f32 then λ x.
+    f32 then λ y.
+    f32 then λ bend.
+    modulation then λ x-mod.
+    modulation then λ y-mod.
+    done (record { x = x; y = y; bend = bend; «x_mod» = x-mod; «y_mod» = y-mod })
+
+abbrev pub blankPathPoint : PathPointCodes
+blankPathPoint = record { x = f32-0; y = f32-0; bend = f32-0; «x_mod» = blankMod; «y_mod» = blankMod }
+
+abbrev pub pathPoints : ℕ → Parser (List PathPointCodes)
+pathPoints = kept blankPathPoint pathPoint
+
+pub record PathCodes : Type 0 where
+  pub points : List PathPointCodes
+  pub count : ℕ
+  pub closed : ℕ
+  pub legs : List Float
+
+-- path = count closed ppoint.. legs
+unfoldable pub path : Parser PathCodes
+path =
+    count then λ n.
+    number then λ closed.
+    pathPoints n then λ points.
+    list then λ legs.
+    done (record { points = points; count = n; closed = closed; legs = legs })
+
+-- How a program says it: the strengths, or the legs, are the first `len` of a buffer.
+abbrev pub shapeRead : ShapeRead → List Float → ShapeCodes
+shapeRead r buffer = record { points = r .points; count = r .count; loopback = r .loopback; strengths = take (r .len) buffer }
+
+abbrev pub pathRead : PathRead → List Float → PathCodes
+pathRead r buffer = record { points = r .points; count = r .count; closed = r .closed; legs = take (r .len) buffer }

@@ -1,0 +1,67 @@
+-- Some runs, which the definitions meet by computation. Assumes nothing.
+use Prim.Native.Nat.{ℕ, suc, _+_, _^_}
+use mathlib.Core.Path.{_≡_, refl}
+use mathlib.Core.List.{List, [], _∷_, _++_}
+use lib.ListN.{length, replicate}
+use lib.Ieee.{nan, binary32, ofBits}
+use Rattle.floatlaws.specs.Numbers.{f32-0, f32-1}
+use Rattle.number.specs.Encoded.{groups, encoded}
+use Rattle.number.specs.Read as Read
+use Rattle.number.specs.Read.{leading, numberOf, shortest, judged, readFrom, readAt}
+use Rattle.runs.specs.Parser.{read, malformed, after}
+use Rattle.runs.specs.Fields.{number, below, f32, numberIf, byteIf, f32If}
+use Rattle.runs.specs.Records.{rate, span, smooth, settings}
+use Rattle.runs.specs.Curves.{kept, floats, list, modulation}
+
+-- numbers as bytes, one after the other
+bytes : List ℕ → List ℕ
+bytes [] = []
+bytes (n ∷ l) = encoded n ++ bytes l
+
+-- the bits of 1
+one : ℕ
+one = 0x3f80_0000
+
+-- kind 4, mode 1, direction 2, rate 1 with 1 Hz and ×10, song lock, no swing, a fade-in of division 9, no delay, a NaN to smooth by, phase 1, snap, grid 300
+settings-read : settings (bytes (4 ∷ 1 ∷ 2 ∷ 1 ∷ one ∷ 1 ∷ 1 ∷ 0 ∷ 1 ∷ 9 ∷ 0 ∷ 1 ∷ 0x7fc0_0001 ∷ one ∷ 1 ∷ 300 ∷ [])) 0
+    ≡ read
+    (record {
+      kind = 4;
+      mode = 1;
+      direction = 2;
+      rate = record { code = 1; division = 0; feel = 0; hz = f32-1; x10 = 1 };
+      «song_lock» = 1;
+      swing = 0;
+      «fade_in» = record { code = 1; division = 9; seconds = f32-0 };
+      delay = record { code = 0; division = 0; seconds = f32-0 };
+      smooth = record { code = 1; coefficient = nan };
+      phase = f32-1;
+      «phase_snap» = 1;
+      «grid_x» = 300;
+    })
+    29
+unfolding bytes one encoded groups readAt readFrom leading judged shortest numberOf after number below Read.below f32 numberIf f32If rate span smooth settings ofBits
+settings-read = refl
+
+-- an unknown code has no fields
+unknown-rate : rate (bytes (2 ∷ 5 ∷ [])) 0 ≡ read (record { code = 2; division = 0; feel = 0; hz = f32-0; x10 = 0 }) 1
+unfolding bytes encoded groups readAt readFrom leading judged shortest numberOf after number numberIf f32If rate
+unknown-rate = refl
+
+-- a bus of 256, an f32 of 33 bits, and 4,097 floats are too large
+large-bus : modulation (bytes (1 ∷ 256 ∷ 0 ∷ [])) 0 ≡ malformed
+unfolding bytes encoded groups readAt readFrom leading judged shortest numberOf after number below Read.below byteIf modulation
+large-bus = refl
+
+large-float : f32 (bytes (2 ^ 32 ∷ [])) 0 ≡ malformed
+unfolding bytes encoded groups readAt readFrom leading judged shortest numberOf after below Read.below f32
+large-float = refl
+
+many-floats : list (bytes (4097 ∷ [])) 0 ≡ malformed
+unfolding bytes encoded groups readAt readFrom leading judged shortest numberOf after below Read.below list
+many-floats = refl
+
+-- what stands past the 64th is read and not kept
+past-the-array : kept 0 number 66 (replicate 64 5 ++ 6 ∷ 7 ∷ 8 ∷ []) 0 ≡ read (replicate 64 5) 66
+unfolding readAt readFrom leading judged shortest numberOf after number kept
+past-the-array = refl

@@ -1,0 +1,115 @@
+// Paths.
+ghost use mathlib.Core.Path.{_≡_};
+ghost use Prim.Native.Nat.{_≤_};
+ghost use lib.ListN.{length, replicate};
+ghost use Rattle.runs.specs.Parser.{Reads};
+ghost use Rattle.runs.specs.Curves.{pathPoint, pathPoints, blankPathPoint, path, pathRead};
+use super::fields::Place;
+use super::fields::read_below;
+use super::fields::read_f32;
+use super::fields::read_number;
+use super::lists::read_list;
+use super::shapes::read_mod;
+use curves::ModCodes;
+use curves::PathPointCodes;
+use points::MAX_POINTS;
+
+pub struct PathPointRead {
+    pub value: PathPointCodes,
+    pub next: Place,
+}
+
+pub struct PathPointsRead {
+    pub value: [PathPointCodes; MAX_POINTS],
+    pub next: Place,
+}
+
+// A path of `count` points, of which the array has the first 64, and with `len` legs, which are in a buffer of the caller's.
+pub struct PathRead {
+    pub points: [PathPointCodes; MAX_POINTS],
+    pub count: usize,
+    pub closed: u64,
+    pub len: usize,
+    pub next: Place,
+}
+
+fn read_path_point(run: &[u8], from: Place) -> PathPointRead
+    ensures { λ r. ⌜ Reads (pathPoint (now (run .entry))) from (r .value) (r .next) ⌝ }
+{
+    let x = read_f32(run, from);
+    let y = read_f32(run, x.next);
+    let bend = read_f32(run, y.next);
+    let x_mod = read_mod(run, bend.next);
+    let y_mod = read_mod(run, x_mod.next);
+    let x_mod_codes = x_mod.value;
+    let y_mod_codes = y_mod.value;
+    let next = y_mod.next;
+    PathPointRead {
+        value: PathPointCodes {
+            x: x.value,
+            y: y.value,
+            bend: bend.value,
+            x_mod: x_mod_codes,
+            y_mod: y_mod_codes,
+        },
+        next,
+    }
+}
+
+fn blank_path_points() -> [PathPointCodes; MAX_POINTS]
+    ensures { λ r. ⌜ r ≡ replicate 64 blankPathPoint ⌝ }
+{
+    let blank_mod = ModCodes {
+        code: 0,
+        bus: 0,
+        depth: 0.0,
+    };
+    let blank_point = PathPointCodes {
+        x: 0.0,
+        y: 0.0,
+        bend: 0.0,
+        x_mod: blank_mod,
+        y_mod: blank_mod,
+    };
+    [blank_point; MAX_POINTS]
+}
+
+// Reads `count` points and keeps the first 64.
+fn read_path_points(run: &[u8], from: Place, count: usize) -> PathPointsRead
+    ensures { λ r. ⌜ Reads (pathPoints count (now (run .entry))) from (r .value) (r .next) ⌝ }
+{
+    let mut kept = blank_path_points();
+    let mut next = from;
+    let mut i = 0;
+    while i < count {
+        let p = read_path_point(run, next);
+        if i < MAX_POINTS {
+            let codes = p.value;
+            kept[i] = codes;
+        }
+        let after = p.next;
+        next = after;
+        i += 1;
+    }
+    PathPointsRead { value: kept, next }
+}
+
+// Reads a path, with its legs into the front of `buffer`.
+pub fn read_path(run: &[u8], from: Place, buffer: &mut [f32]) -> PathRead
+    requires { ⌜ 4096 ≤ length (now buffer) ⌝ }
+    ensures { λ r. ⌜ (Reads (path (now (run .entry))) from (pathRead r (now (buffer .exit))) (r .next)) × (r .len ≤ 4096) ⌝ }
+{
+    let count = read_below(run, from, 4097);
+    let closed = read_number(run, count.next);
+    let points = read_path_points(run, closed.next, count.value as usize);
+    let legs = read_list(run, points.next, buffer);
+    let kept = points.value;
+    let next = legs.next;
+    PathRead {
+        points: kept,
+        count: count.value as usize,
+        closed: closed.value,
+        len: legs.len,
+        next,
+    }
+}

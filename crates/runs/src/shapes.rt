@@ -1,0 +1,164 @@
+// Shapes.
+ghost use mathlib.Core.Path.{_≡_};
+ghost use Prim.Native.Nat.{_≤_};
+ghost use lib.ListN.{length, replicate};
+ghost use Rattle.runs.specs.Parser.{Reads};
+ghost use Rattle.runs.specs.Curves.{modulation, point, points, blankPoint, loopback, shape, shapeRead};
+use super::fields::Place;
+use super::fields::read_below;
+use super::fields::read_byte_if;
+use super::fields::read_f32;
+use super::fields::read_f32_if;
+use super::fields::read_number;
+use super::fields::read_number_if;
+use super::lists::read_list;
+use curves::LoopbackCodes;
+use curves::ModCodes;
+use curves::PointCodes;
+use points::MAX_POINTS;
+
+pub struct ModRead {
+    pub value: ModCodes,
+    pub next: Place,
+}
+
+pub struct PointRead {
+    pub value: PointCodes,
+    pub next: Place,
+}
+
+pub struct PointsRead {
+    pub value: [PointCodes; MAX_POINTS],
+    pub next: Place,
+}
+
+pub struct LoopbackRead {
+    pub value: LoopbackCodes,
+    pub next: Place,
+}
+
+// A shape of `count` points, of which the array has the first 64, and with `len` strengths, which are in a buffer of the caller's.
+pub struct ShapeRead {
+    pub points: [PointCodes; MAX_POINTS],
+    pub count: usize,
+    pub loopback: LoopbackCodes,
+    pub len: usize,
+    pub next: Place,
+}
+
+pub fn read_mod(run: &[u8], from: Place) -> ModRead
+    ensures { λ r. ⌜ Reads (modulation (now (run .entry))) from (r .value) (r .next) ⌝ }
+{
+    let code = read_number(run, from);
+    let bus = read_byte_if(run, code.next, code.value == 1);
+    let depth = read_f32_if(run, bus.next, code.value == 1);
+    let next = depth.next;
+    ModRead {
+        value: ModCodes {
+            code: code.value,
+            bus: bus.value,
+            depth: depth.value,
+        },
+        next,
+    }
+}
+
+fn read_point(run: &[u8], from: Place) -> PointRead
+    ensures { λ r. ⌜ Reads (point (now (run .entry))) from (r .value) (r .next) ⌝ }
+{
+    let x = read_f32(run, from);
+    let y = read_f32(run, x.next);
+    let curve = read_f32(run, y.next);
+    let step = read_number(run, curve.next);
+    let x_mod = read_mod(run, step.next);
+    let y_mod = read_mod(run, x_mod.next);
+    let x_mod_codes = x_mod.value;
+    let y_mod_codes = y_mod.value;
+    let next = y_mod.next;
+    PointRead {
+        value: PointCodes {
+            x: x.value,
+            y: y.value,
+            curve: curve.value,
+            step: step.value,
+            x_mod: x_mod_codes,
+            y_mod: y_mod_codes,
+        },
+        next,
+    }
+}
+
+fn blank_points() -> [PointCodes; MAX_POINTS]
+    ensures { λ r. ⌜ r ≡ replicate 64 blankPoint ⌝ }
+{
+    let blank_mod = ModCodes {
+        code: 0,
+        bus: 0,
+        depth: 0.0,
+    };
+    let blank_point = PointCodes {
+        x: 0.0,
+        y: 0.0,
+        curve: 0.0,
+        step: 0,
+        x_mod: blank_mod,
+        y_mod: blank_mod,
+    };
+    [blank_point; MAX_POINTS]
+}
+
+// Reads `count` points and keeps the first 64.
+fn read_points(run: &[u8], from: Place, count: usize) -> PointsRead
+    ensures { λ r. ⌜ Reads (points count (now (run .entry))) from (r .value) (r .next) ⌝ }
+{
+    let mut kept = blank_points();
+    let mut next = from;
+    let mut i = 0;
+    while i < count {
+        let p = read_point(run, next);
+        if i < MAX_POINTS {
+            let codes = p.value;
+            kept[i] = codes;
+        }
+        let after = p.next;
+        next = after;
+        i += 1;
+    }
+    PointsRead { value: kept, next }
+}
+
+fn read_loopback(run: &[u8], from: Place) -> LoopbackRead
+    ensures { λ r. ⌜ Reads (loopback (now (run .entry))) from (r .value) (r .next) ⌝ }
+{
+    let code = read_number(run, from);
+    let index = read_number_if(run, code.next, code.value == 1);
+    let next = index.next;
+    LoopbackRead {
+        value: LoopbackCodes {
+            code: code.value,
+            index: index.value,
+        },
+        next,
+    }
+}
+
+// Reads a shape, with its strengths into the front of `buffer`.
+pub fn read_shape(run: &[u8], from: Place, buffer: &mut [f32]) -> ShapeRead
+    requires { ⌜ 4096 ≤ length (now buffer) ⌝ }
+    ensures { λ r. ⌜ (Reads (shape (now (run .entry))) from (shapeRead r (now (buffer .exit))) (r .next)) × (r .len ≤ 4096) ⌝ }
+{
+    let count = read_below(run, from, 4097);
+    let points = read_points(run, count.next, count.value as usize);
+    let loopback = read_loopback(run, points.next);
+    let strengths = read_list(run, loopback.next, buffer);
+    let kept = points.value;
+    let loopback_codes = loopback.value;
+    let next = strengths.next;
+    ShapeRead {
+        points: kept,
+        count: count.value as usize,
+        loopback: loopback_codes,
+        len: strengths.len,
+        next,
+    }
+}

@@ -1,0 +1,131 @@
+//! `bench PROGRAM [ROUNDS]`: times `process_scalar` of the Rust source, one voice, against the Rattle program, in turns, and writes the medians.
+#![allow(dead_code)]
+
+include!(concat!(env!("OUT_DIR"), "/source.rs"));
+#[path = "../../src/simd.rs"]
+pub mod simd;
+
+use lfo::{Lfo, LfoBank, LfoType, Mode, Point, Rate, Settings, Transport};
+use std::hint::black_box;
+use std::io::Write;
+use std::process::{Command, Stdio};
+
+const FRAMES: usize = 512_000;
+const SIZES: [usize; 3] = [512, 64, 16];
+const ITEMS: [(&str, LfoType); 5] = [
+    ("Drawn, default shape", LfoType::Drawn),
+    ("Drawn, 16 bent points", LfoType::Drawn),
+    ("Path, default path", LfoType::Path),
+    ("Lorenz", LfoType::Lorenz),
+    ("Sample-and-Hold", LfoType::SampleAndHold),
+];
+
+#[repr(C)]
+struct Timespec {
+    seconds: i64,
+    nanos: i64,
+}
+
+unsafe extern "C" {
+    fn clock_gettime(clock: i32, time: *mut Timespec) -> i32;
+}
+
+/// The processor time of this process, in nanoseconds.
+fn now() -> f64 {
+    let mut t = Timespec { seconds: 0, nanos: 0 };
+    unsafe { clock_gettime(2, &mut t) };
+    t.seconds as f64 * 1e9 + t.nanos as f64
+}
+
+/// 16 points at uneven x, bent, one of them a step. The Rattle program has them by their bits.
+fn bent16() -> Vec<Point> {
+    (0..16u32)
+        .map(|i| {
+            let x = i as f32 / 16.0 + (i % 3) as f32 / 64.0;
+            let y = ((i * 7) % 16) as f32 / 15.0;
+            let p = Point::new(x, y).curve((((i * 5) % 13) as f32 - 6.0) * 0.15);
+            if i == 9 { p.step() } else { p }
+        })
+        .collect()
+}
+
+fn bank(item: usize) -> LfoBank {
+    let settings = Settings {
+        kind: ITEMS[item].1,
+        rate: Rate::Hz { hz: 5.0, x10: false },
+        mode: Mode::Restart,
+        ..Settings::default()
+    };
+    let mut lfo = Lfo::new(settings, 7);
+    if item == 1 {
+        lfo.shape_mut().set_points(&bent16());
+    }
+    LfoBank::new(lfo, 1)
+}
+
+/// Nanoseconds a frame, the output not read.
+fn time(item: usize, size: usize) -> f64 {
+    let mut bank = bank(item);
+    let transport = Transport::new(48000.0);
+    let (mut x, mut y) = ([0f32; 512], [0f32; 512]);
+    let at = now();
+    for _ in 0..FRAMES / size {
+        bank.process_scalar(black_box(&transport), size, &mut x, Some(&mut y));
+        black_box((&x, &y));
+    }
+    (now() - at) / FRAMES as f64
+}
+
+/// A number made of every bit that came out.
+fn bits(item: usize, size: usize) -> u64 {
+    let mut bank = bank(item);
+    let transport = Transport::new(48000.0);
+    let (mut x, mut y) = ([0f32; 512], [0f32; 512]);
+    let mut h = 0u64;
+    for _ in 0..FRAMES / size {
+        bank.process_scalar(&transport, size, &mut x, Some(&mut y));
+        for k in 0..size {
+            let word = u64::from(x[k].to_bits()) << 32 | u64::from(y[k].to_bits());
+            h = (h ^ word).rotate_left(7).wrapping_add(0x9E37_79B9_7F4A_7C15);
+        }
+    }
+    h
+}
+
+fn ours(program: &str, item: usize, size: usize, bits: bool) -> String {
+    let mut child = Command::new(program).stdin(Stdio::piped()).stdout(Stdio::piped()).spawn().expect("the Rattle program");
+    writeln!(child.stdin.take().unwrap(), "{item} {FRAMES} {size} {}", u8::from(bits)).unwrap();
+    String::from_utf8(child.wait_with_output().unwrap().stdout).unwrap().trim().to_string()
+}
+
+fn median(mut v: Vec<f64>) -> f64 {
+    v.sort_by(f64::total_cmp);
+    v[v.len() / 2]
+}
+
+fn main() {
+    let args: Vec<String> = std::env::args().collect();
+    let program = args.get(1).expect("bench PROGRAM [ROUNDS]");
+    let rounds: usize = args.get(2).map_or(31, |n| n.parse().unwrap());
+    for item in 0..ITEMS.len() {
+        for size in SIZES {
+            assert_eq!(ours(program, item, size, true), format!("{:016x}", bits(item, size)), "{} differs", ITEMS[item].0);
+        }
+    }
+    let mut times = vec![vec![(Vec::new(), Vec::new()); ITEMS.len()]; SIZES.len()];
+    for _ in 0..rounds {
+        for (s, size) in SIZES.into_iter().enumerate() {
+            for item in 0..ITEMS.len() {
+                times[s][item].0.push(time(item, size));
+                times[s][item].1.push(ours(program, item, size, false).parse::<f64>().unwrap() / 1000.0);
+            }
+        }
+    }
+    println!("| item | frames a block | Rust | ours | ratio |\n|---|---|---|---|---|");
+    for (s, size) in SIZES.into_iter().enumerate() {
+        for item in 0..ITEMS.len() {
+            let (rust, ours) = (median(times[s][item].0.clone()), median(times[s][item].1.clone()));
+            println!("| {} | {size} | {rust:.1} | {ours:.1} | {:.2} |", ITEMS[item].0, ours / rust);
+        }
+    }
+}

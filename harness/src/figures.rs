@@ -1,0 +1,209 @@
+//! What the runs of a comparison tried, so that a reader sees that everything was tried.
+use crate::lfo::{LfoType, Mode, Rate, Settings, Span, Transport};
+use crate::player::Heard;
+use crate::questions::APPLY;
+use crate::run::{Block, Present};
+use std::fmt;
+
+pub const CALLS: [&str; 9] = [
+    "settings", "shape", "path", "bus", "phase", "block", "shape at", "path at", "make",
+];
+/// The place of making a player in lists by tag.
+pub const MAKE: usize = 8;
+
+/// How a run's output ends.
+#[derive(Clone, Copy, Debug, PartialEq)]
+pub enum Ending {
+    AtEnd,
+    Refused,
+    Malformed,
+}
+
+#[derive(Default)]
+pub struct Figures {
+    pub runs: u64,
+    pub frames: u64,
+    /// Runs by their ending, and those whose `out` was too short.
+    pub endings: [u64; 3],
+    pub short: u64,
+    /// Calls by tag and answer.
+    pub answers: [[u64; 10]; 9],
+    /// Frames by kind and mode.
+    kinds: [[u64; 3]; 5],
+    /// Frames of shapes and paths by direction.
+    directions: [u64; 3],
+    /// Frames at synced rates and in hertz, at half a cycle a sample, and at rest.
+    rates: [u64; 4],
+    song_locked: u64,
+    swung: u64,
+    smoothed: u64,
+    looped: u64,
+    /// Frames after a restart with a delay or a fade.
+    faded: u64,
+    /// Blocks with no restart, with one at 0, within, at the end, beyond it.
+    restarts: [u64; 5],
+    /// Blocks of no frame, of one, of less than 64, less than 4,096, of 4,096.
+    lengths: [u64; 5],
+    finished: u64,
+    nan: u64,
+    /// Blocks that `process_scalar` itself played too, and those with other supplied numbers than the source's.
+    by_bank: u64,
+    supplied: u64,
+    pub bank_differed: u64,
+    /// Phases read that are 1, and that are −0.
+    phases: [u64; 2],
+    /// Blocks in which `max` was put the zeros −0 and 0.
+    zeros: u64,
+}
+
+fn count(to: &mut u64, when: bool, many: u64) {
+    *to += if when { many } else { 0 };
+}
+
+impl Figures {
+    /// An accepted block.
+    pub fn block(&mut self, s: &Settings, looped: bool, t: &Transport, b: &Block, inc: f64) {
+        let n = b.frames;
+        self.frames += n;
+        self.kinds[s.kind as usize][s.mode as usize] += n;
+        if !s.kind.is_generator() {
+            self.directions[s.direction as usize] += n;
+        }
+        let synced = matches!(s.rate, Rate::Synced { .. });
+        self.rates[usize::from(!synced)] += n;
+        count(&mut self.rates[2], inc == 0.5, n);
+        count(&mut self.rates[3], inc == 0.0, n);
+        count(&mut self.song_locked, s.song_lock && t.playing, n);
+        count(&mut self.swung, s.swing && synced && t.swing > 0.0, n);
+        let loops = looped && s.kind == LfoType::Drawn && s.mode == Mode::OneShot;
+        count(&mut self.looped, loops, n);
+        let restarted = matches!(b.restart, Present::Yes(_));
+        let fades = s.delay != Span::Off || s.fade_in != Span::Off;
+        count(&mut self.faded, restarted && fades, n);
+        self.restarts[match b.restart {
+            Present::Yes(0) => 1,
+            Present::Yes(at) if at < n => 2,
+            Present::Yes(at) if at == n => 3,
+            Present::Yes(_) => 4,
+            _ => 0,
+        }] += 1;
+        self.lengths[match n {
+            0 => 0,
+            1 => 1,
+            2..64 => 2,
+            64..4096 => 3,
+            _ => 4,
+        }] += 1;
+    }
+
+    /// What an accepted block gave.
+    pub fn heard(&mut self, values: &[&[f32]], smoothed: bool, finished: bool, heard: Heard) {
+        let nan = |list: &[f32]| list.iter().filter(|x| x.is_nan()).count() as u64;
+        self.nan += values.iter().map(|list| nan(list)).sum::<u64>();
+        count(&mut self.smoothed, smoothed, values[0].len() as u64);
+        count(&mut self.finished, finished, 1);
+        count(&mut self.zeros, heard.zeros, 1);
+    }
+
+    pub fn phase(&mut self, phase: f32) {
+        count(&mut self.phases[0], phase == 1.0, 1);
+        count(
+            &mut self.phases[1],
+            phase == 0.0 && phase.is_sign_negative(),
+            1,
+        );
+    }
+
+    /// How many of a player's blocks the bank played too, and how often it gave other bits.
+    pub fn bank(&mut self, blocks: u64, by_bank: u64, differed: u64) {
+        self.by_bank += by_bank;
+        self.supplied += blocks - by_bank;
+        self.bank_differed += differed;
+    }
+
+    fn missing(&self, phase: bool) -> Vec<String> {
+        let mut missing = vec![];
+        for (tag, numbers) in APPLY.iter().enumerate() {
+            if tag == 4 && !phase {
+                continue;
+            }
+            for n in std::iter::once(&0).chain(*numbers) {
+                // question 8 is out of a run's reach
+                if *n != 8 && self.answers[tag][*n as usize] == 0 {
+                    missing.push(format!("{} {n}", CALLS[tag]));
+                }
+            }
+        }
+        missing
+    }
+
+    pub fn show(&self, phase: bool) {
+        print!("{self}");
+        let missing = self.missing(phase);
+        if !missing.is_empty() {
+            println!("  answers that did not come: {}", missing.join(", "));
+        }
+    }
+}
+
+impl fmt::Display for Figures {
+    fn fmt(&self, f: &mut fmt::Formatter) -> fmt::Result {
+        let [at_end, refused, malformed] = self.endings;
+        writeln!(
+            f,
+            "  runs {}: played to the end {at_end}, making refused {refused}, malformed {malformed}; `out` too short in {}",
+            self.runs, self.short
+        )?;
+        writeln!(f, "  answers by call (0, then the number of the question):")?;
+        for (name, row) in CALLS.iter().zip(&self.answers) {
+            let counts: Vec<String> = (0..10)
+                .filter(|n| row[*n] > 0)
+                .map(|n| format!("{n}: {}", row[n]))
+                .collect();
+            writeln!(f, "    {name:<9} {}", counts.join(", "))?;
+        }
+        writeln!(f, "  frames by kind (Free, Restart, One-shot):")?;
+        let kinds = ["Drawn", "Path", "Lorenz", "Rössler", "Sample-and-Hold"];
+        for (name, row) in kinds.iter().zip(self.kinds) {
+            writeln!(
+                f,
+                "    {name:<15} {:>11} {:>11} {:>11}",
+                row[0], row[1], row[2]
+            )?;
+        }
+        let [forward, reverse, ping_pong] = self.directions;
+        writeln!(
+            f,
+            "  frames of curves: Forward {forward}, Reverse {reverse}, PingPong {ping_pong}; One-shot with loopback {}",
+            self.looped
+        )?;
+        let [synced, hz, limit, rest] = self.rates;
+        writeln!(
+            f,
+            "  frames: synced {synced}, in hertz {hz}, at the limit of 0.5 {limit}, at rate 0 {rest}, song lock in force {}, swung {}, smoothed {}, in blocks with a restart and delay or fade {}",
+            self.song_locked, self.swung, self.smoothed, self.faded
+        )?;
+        let [none, first, within, end, beyond] = self.restarts;
+        writeln!(
+            f,
+            "  blocks: no restart {none}, at 0 {first}, within {within}, at the end {end}, beyond {beyond}; finished {}",
+            self.finished
+        )?;
+        let [empty, one, few, many, most] = self.lengths;
+        writeln!(
+            f,
+            "  blocks of 0 frames {empty}, 1 {one}, 2 to 63 {few}, 64 to 4,095 {many}, 4,096 {most}"
+        )?;
+        let [whole, minus] = self.phases;
+        writeln!(
+            f,
+            "  NaN values {}; phases that are 1: {whole}, −0: {minus}; blocks where `max` is put −0 and 0: {}",
+            self.nan, self.zeros
+        )?;
+        writeln!(
+            f,
+            "  blocks that process_scalar itself played {} (other bits than the reference's: {}), with other supplied numbers than its own {}",
+            self.by_bank, self.bank_differed, self.supplied
+        )
+    }
+}

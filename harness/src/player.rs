@@ -1,0 +1,339 @@
+//! The player by the Rust source: an `Lfo` and an `LfoVoice`, played by `Lfo::play_` (opened.rs), which takes the supplied numbers as they are
+//! handed in. As long as they are those that the source computes itself, an `LfoBank` with one voice gets the same calls and plays the same
+//! blocks by `process_scalar`, and both must give the same bits.
+use crate::lfo::{
+    CURVE_RANGE, Division, Lfo, LfoBank, LfoVoice, MAX_POINTS, Path, PathPoint, Point, PointMod,
+    Rate, Scale, Settings, Shape, Span, Transport,
+};
+use crate::run::{self, Present};
+use crate::tally::bits32;
+use crate::values::{DIRECTIONS, FEELS, KINDS, MODES};
+
+/// `LfoBank::new` adds it to the slot's seed for voice 0.
+const GOLDEN: u64 = 0x9E37_79B9_7F4A_7C15;
+
+/// What is handed in beside settings and curves.
+#[derive(Clone)]
+pub struct Supplied {
+    pub smooth: Option<f32>,
+    /// One to each point of the shape, as the points are sorted.
+    pub strengths: Vec<f32>,
+    /// The times of the path's points, where its legs are not the source's own.
+    pub times: Option<Vec<f32>>,
+}
+
+/// Of a block: the last frame's count with swing, and whether `max` was put the zeros −0 and 0.
+#[derive(Clone, Copy, Default)]
+pub struct Heard {
+    pub last: Option<f64>,
+    pub zeros: bool,
+}
+
+pub fn bits(x: f32) -> u32 {
+    x.to_bits()
+}
+
+// ---- from numbers to the source's types; only known codes get here
+
+fn division(code: u64) -> Division {
+    Division::new(code as u8).expect("a known division")
+}
+
+fn span(s: run::Span) -> Span {
+    match s {
+        run::Span::Synced(d) => Span::Synced(division(d)),
+        run::Span::Seconds(s) => Span::Seconds(f32::from_bits(s)),
+        _ => Span::Off,
+    }
+}
+
+/// The settings, with `smooth` as the source has it.
+pub fn settings_of(s: &run::Settings, smooth: f32) -> Settings {
+    Settings {
+        kind: KINDS[s.kind as usize],
+        mode: MODES[s.mode as usize],
+        direction: DIRECTIONS[s.direction as usize],
+        rate: match s.rate {
+            run::Rate::Synced { division: d, feel } => Rate::Synced {
+                division: division(d),
+                feel: FEELS[feel as usize],
+            },
+            run::Rate::Hz { hz, x10 } => Rate::Hz {
+                hz: f32::from_bits(hz),
+                x10: x10 == 1,
+            },
+            run::Rate::Unknown(_) => Rate::default(),
+        },
+        song_lock: s.song_lock == 1,
+        swing: s.swing == 1,
+        fade_in: span(s.fade_in),
+        delay: span(s.delay),
+        smooth,
+        phase: f32::from_bits(s.phase),
+        phase_snap: s.phase_snap == 1,
+        grid_x: s.grid_x,
+        ..Settings::default()
+    }
+}
+
+fn coefficient(s: &run::Settings) -> Option<f32> {
+    match s.smooth {
+        Present::Yes(a) => Some(f32::from_bits(a)),
+        _ => None,
+    }
+}
+
+fn modulation(m: &Present<run::Mod>) -> Option<PointMod> {
+    match m {
+        Present::Yes(m) => Some(PointMod {
+            bus: m.bus,
+            depth: f32::from_bits(m.depth),
+        }),
+        _ => None,
+    }
+}
+
+/// The shape, with its strengths as its points are sorted.
+pub fn shape_of(s: &run::Shape) -> (Shape, Vec<f32>) {
+    let points: Vec<Point> = s
+        .points
+        .iter()
+        .map(|p| Point {
+            x: f32::from_bits(p.x),
+            y: f32::from_bits(p.y),
+            curve: f32::from_bits(p.curve),
+            step: p.step == 1,
+            x_mod: modulation(&p.mods[0]),
+            y_mod: modulation(&p.mods[1]),
+        })
+        .collect();
+    let mut shape = Shape::new(&points);
+    if let Present::Yes(i) = s.loopback {
+        shape.set_loopback(Some(i as usize));
+    }
+    // a stable sort by the clamped x
+    let mut order: Vec<(f32, f32)> = points
+        .iter()
+        .zip(&s.strengths)
+        .map(|(p, e)| (p.x.clamp(0.0, 1.0), f32::from_bits(*e)))
+        .collect();
+    order.sort_by(|a, b| a.0.partial_cmp(&b.0).expect("finite"));
+    (shape, order.into_iter().map(|p| p.1).collect())
+}
+
+/// The path, with the times of its points where its legs are not the source's own.
+pub fn path_of(path: &run::Path) -> (Path, Option<Vec<f32>>) {
+    let points: Vec<PathPoint> = path
+        .points
+        .iter()
+        .map(|p| PathPoint {
+            x: f32::from_bits(p.x),
+            y: f32::from_bits(p.y),
+            bend: f32::from_bits(p.bend),
+            x_mod: modulation(&p.mods[0]),
+            y_mod: modulation(&p.mods[1]),
+        })
+        .collect();
+    let made = Path::new(&points, path.closed == 1);
+    let own = legs(&points, path.closed == 1);
+    let times =
+        (own.iter().copied().map(bits).ne(path.legs.iter().copied())).then(|| times(&path.legs));
+    (made, times)
+}
+
+/// The strength that the source computes for a bend.
+pub fn strength(curve: f32) -> f32 {
+    (curve.clamp(-1.0, 1.0) * CURVE_RANGE).exp2()
+}
+
+/// The legs that the source computes for a path.
+pub fn legs(points: &[PathPoint], closed: bool) -> Vec<f32> {
+    let kept: Vec<[f32; 2]> = points
+        .iter()
+        .take(MAX_POINTS)
+        .map(|p| [p.x.clamp(0.0, 1.0), p.y.clamp(0.0, 1.0)])
+        .collect();
+    let count = crate::questions::segments(kept.len(), closed.into());
+    (0..count)
+        .map(|j| {
+            let (a, b) = (kept[j], kept[(j + 1) % kept.len()]);
+            (b[0] - a[0]).hypot(b[1] - a[1])
+        })
+        .collect()
+}
+
+/// Running sums of the legs over their total; with total 0, j / segments.
+pub fn times(legs: &[u32]) -> Vec<f32> {
+    let mut sums = vec![0.0f32];
+    for leg in legs {
+        sums.push(sums[sums.len() - 1] + f32::from_bits(*leg));
+    }
+    let total = sums[legs.len()];
+    let spread = |j: usize, sum: f32| {
+        if total > 0.0 {
+            sum / total
+        } else {
+            j as f32 / (legs.len() as f32).max(1.0)
+        }
+    };
+    sums.iter()
+        .enumerate()
+        .map(|(j, s)| spread(j, *s))
+        .collect()
+}
+
+pub fn transport_of(t: &run::Transport) -> Transport {
+    Transport {
+        sample_rate: f64::from_bits(t.sample_rate),
+        tempo: f64::from_bits(t.tempo),
+        beats_per_bar: f64::from_bits(t.beats_per_bar),
+        playing: t.playing == 1,
+        beats: f64::from_bits(t.beats),
+        seconds: f64::from_bits(t.seconds),
+        swing: f32::from_bits(t.swing),
+        scale: match t.scale {
+            run::Scale::Rate(p) => Scale::Rate(f32::from_bits(p)),
+            run::Scale::Percent(p) => Scale::Percent(f32::from_bits(p)),
+            run::Scale::Unknown(_) => Scale::default(),
+        },
+    }
+}
+
+// ---- the player
+
+pub struct Player {
+    pub lfo: Lfo,
+    voice: LfoVoice,
+    supplied: Supplied,
+    /// While all supplied numbers are the source's own.
+    bank: Option<LfoBank>,
+    /// Blocks that the bank played too.
+    pub by_bank: u64,
+    /// Blocks in which it gave other bits: a fault of the harness.
+    pub bank_differed: u64,
+}
+
+impl Player {
+    /// A player; `smooth` is the setting that gave the coefficient, 0 where that is not known.
+    pub fn new(s: &run::Settings, seed: u64, smooth: f32) -> Self {
+        let slot = Lfo::new(settings_of(s, smooth), seed.wrapping_sub(GOLDEN));
+        Self {
+            lfo: Lfo::new(settings_of(s, 0.0), seed),
+            voice: LfoVoice::new(seed),
+            supplied: Supplied {
+                smooth: coefficient(s),
+                strengths: vec![1.0; 3],
+                times: None,
+            },
+            bank: Some(LfoBank::new(slot, 1)),
+            by_bank: 0,
+            bank_differed: 0,
+        }
+    }
+
+    pub fn set_settings(&mut self, s: &run::Settings, smooth: f32) {
+        self.lfo.settings = settings_of(s, 0.0);
+        self.supplied.smooth = coefficient(s);
+        if let Some(bank) = &mut self.bank {
+            bank.lfo.settings = settings_of(s, smooth);
+        }
+    }
+
+    pub fn set_shape(&mut self, s: &run::Shape) {
+        let (shape, strengths) = shape_of(s);
+        let own = shape.points().iter().map(|p| bits(strength(p.curve)));
+        if own.ne(strengths.iter().copied().map(bits)) {
+            self.bank = None;
+        }
+        if let Some(bank) = &mut self.bank {
+            *bank.lfo.shape_mut() = shape.clone();
+        }
+        *self.lfo.shape_mut() = shape;
+        self.supplied.strengths = strengths;
+    }
+
+    pub fn set_path(&mut self, p: &run::Path) {
+        let (path, times) = path_of(p);
+        if times.is_some() {
+            self.bank = None;
+        }
+        if let Some(bank) = &mut self.bank {
+            *bank.lfo.path_mut() = path.clone();
+        }
+        *self.lfo.path_mut() = path;
+        self.supplied.times = times;
+    }
+
+    pub fn set_bus(&mut self, bus: u64, value: u32) {
+        let (bus, value) = (bus as usize, f32::from_bits(value));
+        self.voice.set_bus(bus, value);
+        if let Some(bank) = &mut self.bank {
+            bank.voice_mut(0).set_bus(bus, value);
+        }
+    }
+
+    pub fn smoothed(&self) -> bool {
+        self.supplied.smooth.is_some()
+    }
+
+    pub fn phase(&self, t: &run::Transport) -> f32 {
+        self.lfo.phase(&self.voice, &transport_of(t))
+    }
+
+    /// Plays a block; says its cycles a sample and what was heard.
+    pub fn block(&mut self, b: &run::Block, x: &mut [f32], y: &mut [f32]) -> (f64, Heard) {
+        let transport = transport_of(&b.transport);
+        let frames = b.frames as usize;
+        let restart = match b.restart {
+            Present::Yes(at) => Some(at as usize),
+            _ => None,
+        };
+        self.check_bank(&transport, frames);
+        let played = (frames, restart);
+        let (block, heard) = self.lfo.play_(
+            &mut self.voice,
+            &transport,
+            played,
+            &self.supplied,
+            |k, a, b| {
+                x[k] = a;
+                y[k] = b;
+            },
+        );
+        self.play_bank(&transport, played, &x[..frames], &y[..frames]);
+        (block.cycles_per_sample(), heard)
+    }
+
+    // The bank ends where its own coefficient for the block is not the one handed in.
+    fn check_bank(&mut self, transport: &Transport, frames: usize) {
+        let Some(bank) = &self.bank else { return };
+        let handed = self.supplied.smooth.map(bits);
+        if bank.lfo.settings.smooth == 0.0 && handed.is_none() {
+            return;
+        }
+        let own = bank.lfo.clone().prepare(transport, frames).smooth_();
+        if own.map(bits) != handed {
+            self.bank = None;
+        }
+    }
+
+    fn play_bank(
+        &mut self,
+        transport: &Transport,
+        (frames, restart): (usize, Option<usize>),
+        x: &[f32],
+        y: &[f32],
+    ) {
+        let Some(bank) = &mut self.bank else { return };
+        let (mut own_x, mut own_y) = (vec![0.0; frames], vec![0.0; frames]);
+        if let Some(at) = restart {
+            bank.trigger(0, at);
+        }
+        bank.process_scalar(transport, frames, &mut own_x, Some(&mut own_y));
+        let same = |a: &[f32], b: &[f32]| a.iter().zip(b).all(|(a, b)| bits32(*a) == bits32(*b));
+        self.by_bank += 1;
+        if !same(&own_x, x) || !same(&own_y, y) {
+            self.bank_differed += 1;
+        }
+    }
+}

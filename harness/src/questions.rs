@@ -1,0 +1,223 @@
+//! Document 01's questions to each call, in its order, written from its words. The first "no" gives the number; success is 0.
+use crate::lfo::MAX_POINTS;
+use crate::run::{Block, Call, Mod, Path, Present, Rate, Scale, Settings, Shape, Span, Transport};
+
+/// The frames that a player may play in all.
+const FRAMES: u128 = 1 << 40;
+
+fn first_no(questions: &[(u64, bool)]) -> u64 {
+    questions.iter().find(|q| !q.1).map_or(0, |q| q.0)
+}
+
+// ---- 1: is each code known?
+
+fn yes_or_no(code: u64) -> bool {
+    code <= 1
+}
+
+fn division(code: u64) -> bool {
+    code <= 14
+}
+
+fn is_known<T>(value: &Present<T>) -> bool {
+    !matches!(value, Present::Unknown(_))
+}
+
+fn span_known(span: Span) -> bool {
+    match span {
+        Span::Off | Span::Seconds(_) => true,
+        Span::Synced(d) => division(d),
+        Span::Unknown(_) => false,
+    }
+}
+
+fn settings_known(s: &Settings) -> bool {
+    let rate = match s.rate {
+        Rate::Synced { division: d, feel } => division(d) && feel <= 2,
+        Rate::Hz { x10, .. } => yes_or_no(x10),
+        Rate::Unknown(_) => false,
+    };
+    s.kind <= 4
+        && s.mode <= 2
+        && s.direction <= 2
+        && rate
+        && [s.song_lock, s.swing, s.phase_snap]
+            .into_iter()
+            .all(yes_or_no)
+        && span_known(s.fade_in)
+        && span_known(s.delay)
+        && is_known(&s.smooth)
+}
+
+fn transport_known(t: &Transport) -> bool {
+    yes_or_no(t.playing) && !matches!(t.scale, Scale::Unknown(_))
+}
+
+// ---- 2: is each float finite?
+
+fn finite(bits: u32) -> bool {
+    f32::from_bits(bits).is_finite()
+}
+
+fn all_finite(list: &[u32]) -> bool {
+    list.iter().copied().all(finite)
+}
+
+fn span_finite(span: Span) -> bool {
+    match span {
+        Span::Seconds(s) => finite(s),
+        _ => true,
+    }
+}
+
+fn settings_finite(s: &Settings) -> bool {
+    let rate = match s.rate {
+        Rate::Hz { hz, .. } => finite(hz),
+        _ => true,
+    };
+    let smooth = match s.smooth {
+        Present::Yes(a) => finite(a),
+        _ => true,
+    };
+    rate && span_finite(s.fade_in) && span_finite(s.delay) && smooth && finite(s.phase)
+}
+
+fn mods_finite(mods: &[Present<Mod>; 2]) -> bool {
+    mods.iter().all(|m| match m {
+        Present::Yes(m) => finite(m.depth),
+        _ => true,
+    })
+}
+
+fn transport_finite(t: &Transport) -> bool {
+    let percent = match t.scale {
+        Scale::Percent(p) | Scale::Rate(p) => finite(p),
+        Scale::Unknown(_) => true,
+    };
+    let doubles = [t.sample_rate, t.tempo, t.beats_per_bar, t.beats, t.seconds];
+    doubles.iter().all(|x| f64::from_bits(*x).is_finite()) && finite(t.swing) && percent
+}
+
+// ---- 5 and 6: is it in range?
+
+fn within(bits: u32, lo: f32, hi: f32) -> bool {
+    (lo..=hi).contains(&f32::from_bits(bits))
+}
+
+fn in_range(t: &Transport) -> bool {
+    let within = |bits: u64, lo: f64, hi: f64| (lo..=hi).contains(&f64::from_bits(bits));
+    within(t.sample_rate, 1_000.0, 768_000.0)
+        && within(t.tempo, 0.0, 1_000.0)
+        && within(t.beats_per_bar, 0.25, 64.0)
+        && within(t.beats, -2_147_483_648.0, 2_147_483_647.0)
+        && within(t.seconds, -2_147_483_648.0, 2_147_483_647.0)
+}
+
+// ---- the calls
+
+pub fn settings(s: &Settings) -> u64 {
+    let coefficient = match s.smooth {
+        Present::Yes(a) => within(a, 0.0, 1.0),
+        _ => true,
+    };
+    first_no(&[
+        (1, settings_known(s)),
+        (2, settings_finite(s)),
+        (5, coefficient),
+    ])
+}
+
+/// A shape, and a further float of the call.
+fn shape(s: &Shape, x: u32) -> u64 {
+    let kept = &s.points[..s.points.len().min(MAX_POINTS)];
+    let codes = kept
+        .iter()
+        .all(|p| yes_or_no(p.step) && p.mods.iter().all(is_known))
+        && is_known(&s.loopback);
+    let floats = kept
+        .iter()
+        .all(|p| all_finite(&[p.x, p.y, p.curve]) && mods_finite(&p.mods));
+    let loopback = match s.loopback {
+        Present::Yes(i) => i < kept.len() as u64,
+        _ => true,
+    };
+    first_no(&[
+        (1, codes),
+        (2, floats && all_finite(&s.strengths) && finite(x)),
+        (3, s.strengths.len() == kept.len()),
+        (4, loopback),
+        (5, s.strengths.iter().all(|e| within(*e, 1.0 / 16.0, 16.0))),
+    ])
+}
+
+/// How many segments the kept points of a path have.
+pub fn segments(points: usize, closed: u64) -> usize {
+    match points.min(MAX_POINTS) {
+        0 | 1 => 0,
+        n if closed == 1 => n,
+        n => n - 1,
+    }
+}
+
+fn path(p: &Path, t: u32) -> u64 {
+    let kept = &p.points[..p.points.len().min(MAX_POINTS)];
+    let codes = yes_or_no(p.closed) && kept.iter().all(|p| p.mods.iter().all(is_known));
+    let floats = kept
+        .iter()
+        .all(|p| all_finite(&[p.x, p.y, p.bend]) && mods_finite(&p.mods));
+    first_no(&[
+        (1, codes),
+        (2, floats && all_finite(&p.legs) && finite(t)),
+        (3, p.legs.len() == segments(kept.len(), p.closed)),
+        (5, p.legs.iter().all(|leg| within(*leg, 0.0, 2.0))),
+    ])
+}
+
+fn phase(t: &Transport) -> u64 {
+    first_no(&[
+        (1, transport_known(t)),
+        (2, transport_finite(t)),
+        (6, in_range(t)),
+    ])
+}
+
+fn block(b: &Block, played: u64) -> u64 {
+    let t = &b.transport;
+    first_no(&[
+        (1, transport_known(t) && is_known(&b.restart)),
+        (2, transport_finite(t)),
+        (6, in_range(t)),
+        (
+            7,
+            b.frames <= 4096 && b.x_len >= b.frames && b.y_len >= b.frames,
+        ),
+        (8, u128::from(played) + u128::from(b.frames) <= FRAMES),
+    ])
+}
+
+/// The answer to a call on a player that has played so many frames.
+pub fn answer(call: &Call, played: u64) -> u64 {
+    match call {
+        Call::Settings(s) => settings(s),
+        Call::Shape(s) => shape(s, 0),
+        Call::Path(p) => path(p, 0),
+        Call::Bus { bus, value } => first_no(&[(2, finite(*value)), (9, *bus < 16)]),
+        Call::Phase(t) => phase(t),
+        Call::Block(b) => block(b, played),
+        Call::ShapeAt { shape: s, x } => shape(s, *x),
+        Call::PathAt { path: p, t } => path(p, *t),
+    }
+}
+
+/// The questions that apply to making a player (place 8) and to the call of each tag.
+pub const APPLY: [&[u64]; 9] = [
+    &[1, 2, 5],
+    &[1, 2, 3, 4, 5],
+    &[1, 2, 3, 5],
+    &[2, 9],
+    &[1, 2, 6],
+    &[1, 2, 6, 7, 8],
+    &[1, 2, 3, 4, 5],
+    &[1, 2, 3, 5],
+    &[1, 2, 5],
+];

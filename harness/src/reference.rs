@@ -1,0 +1,233 @@
+//! What `lfo_run` is to give: the bytes of a run read by RUN.md (reading.rs), the questions of document 01 (questions.rs) and the player by the
+//! Rust source (player.rs).
+use crate::figures::{Ending, Figures, MAKE};
+use crate::lfo::{Lfo, Mode};
+use crate::player::{Player, path_of, shape_of, transport_of};
+use crate::questions;
+use crate::reading::Reader;
+use crate::run::{Block, Call, Path, Run, Settings, Shape, put_number};
+use crate::tally::bits32;
+
+const MALFORMED: u64 = 255;
+
+/// What one call gave: the end of its bytes in the output.
+#[derive(Clone, Debug)]
+pub struct Entry {
+    pub tag: usize,
+    pub answer: u64,
+    pub end: usize,
+    pub x_len: u64,
+}
+
+/// The output of a run where `out` has room for all of it.
+pub struct Played {
+    pub out: Vec<u8>,
+    /// Making a player first, then the calls that were read.
+    pub entries: Vec<Entry>,
+    pub ending: Ending,
+    /// Whether `max` was put the zeros −0 and 0.
+    pub zeros: bool,
+}
+
+impl Played {
+    /// How many bytes are written to an `out` of this length: a call that has no room ends the output.
+    pub fn fits(&self, out_len: usize) -> usize {
+        let malformed = (self.ending == Ending::Malformed).then_some(self.out.len());
+        let ends = self.entries.iter().map(|e| e.end).chain(malformed);
+        ends.take_while(|end| *end <= out_len).last().unwrap_or(0)
+    }
+}
+
+fn shape_at(shape: &Shape, x: u32) -> f32 {
+    let (shape, strengths) = shape_of(shape);
+    Lfo::shape_at_(&shape, &strengths, f32::from_bits(x))
+}
+
+fn path_at(path: &Path, t: u32) -> (f32, f32) {
+    let t = f32::from_bits(t);
+    match path_of(path) {
+        (path, None) => path.value(t),
+        (path, Some(times)) => Lfo::path_at_(&path, &times, t),
+    }
+}
+
+struct Playing<'a> {
+    player: Player,
+    played: Played,
+    frames: u64,
+    blocks: u64,
+    figures: &'a mut Figures,
+}
+
+impl Playing<'_> {
+    fn put(&mut self, n: u64) {
+        put_number(&mut self.played.out, n);
+    }
+
+    fn float(&mut self, x: f32) {
+        self.put(bits32(x));
+    }
+
+    fn entry(&mut self, tag: usize, answer: u64, x_len: u64) {
+        self.figures.answers[tag][answer as usize] += 1;
+        let end = self.played.out.len();
+        self.played.entries.push(Entry {
+            tag,
+            answer,
+            end,
+            x_len,
+        });
+    }
+
+    /// Makes a call; `smooth` is the setting that gave its coefficient, 0 where that is not known.
+    fn call(&mut self, call: &Call, smooth: f32) {
+        let answer = questions::answer(call, self.frames);
+        self.put(answer);
+        if let Call::Block(b) = call {
+            self.block(b, answer);
+            self.entry(call.tag(), answer, b.x_len);
+            return;
+        }
+        if answer == 0 {
+            match call {
+                Call::Settings(s) => self.player.set_settings(s, smooth),
+                Call::Shape(s) => self.player.set_shape(s),
+                Call::Path(p) => self.player.set_path(p),
+                Call::Bus { bus, value } => self.player.set_bus(*bus, *value),
+                Call::Phase(t) => {
+                    let phase = self.player.phase(t);
+                    self.figures.phase(phase);
+                    self.float(phase);
+                }
+                Call::Block(_) => {}
+                Call::ShapeAt { shape, x } => self.float(shape_at(shape, *x)),
+                Call::PathAt { path, t } => {
+                    let (x, y) = path_at(path, *t);
+                    self.float(x);
+                    self.float(y);
+                }
+            }
+        }
+        self.entry(call.tag(), answer, 0);
+    }
+
+    fn block(&mut self, b: &Block, answer: u64) {
+        let mut x = vec![7.0; b.x_len as usize];
+        let mut y = vec![7.0; b.y_len as usize];
+        if answer == 0 {
+            let (inc, heard) = self.player.block(b, &mut x, &mut y);
+            let s = self.player.lfo.settings;
+            let finished = s.mode == Mode::OneShot && heard.last.is_some_and(|c| c >= 1.0);
+            self.put(finished.into());
+            self.frames += b.frames;
+            self.blocks += 1;
+            self.played.zeros |= heard.zeros;
+            let looped = self.player.lfo.shape().loopback().is_some();
+            let transport = transport_of(&b.transport);
+            self.figures.block(&s, looped, &transport, b, inc);
+            let n = b.frames as usize;
+            let smoothed = self.player.smoothed();
+            self.figures
+                .heard(&[&x[..n], &y[..n]], smoothed, finished, heard);
+        }
+        for value in x.into_iter().chain(y) {
+            self.float(value);
+        }
+    }
+}
+
+/// Making a player: nothing where that is refused.
+fn make<'a>(
+    (settings, seed): (&Settings, u64),
+    smooth: f32,
+    figures: &'a mut Figures,
+) -> Result<Playing<'a>, Played> {
+    let answer = questions::settings(settings);
+    figures.answers[MAKE][answer as usize] += 1;
+    let entry = Entry {
+        tag: MAKE,
+        answer,
+        end: 1,
+        x_len: 0,
+    };
+    let played = Played {
+        out: vec![answer as u8],
+        entries: vec![entry],
+        ending: Ending::AtEnd,
+        zeros: false,
+    };
+    if answer > 0 {
+        figures.endings[1] += 1;
+        return Err(Played {
+            ending: Ending::Refused,
+            ..played
+        });
+    }
+    Ok(Playing {
+        player: Player::new(settings, seed, smooth),
+        played,
+        frames: 0,
+        blocks: 0,
+        figures,
+    })
+}
+
+fn malformed(mut played: Played, figures: &mut Figures) -> Played {
+    figures.endings[2] += 1;
+    put_number(&mut played.out, MALFORMED);
+    played.ending = Ending::Malformed;
+    played
+}
+
+fn ended(playing: Playing<'_>) -> (Played, &mut Figures) {
+    let p = &playing.player;
+    playing
+        .figures
+        .bank(playing.blocks, p.by_bank, p.bank_differed);
+    (playing.played, playing.figures)
+}
+
+/// Plays the bytes of a run. `smooths` has for making and for each call the setting that gave its coefficient.
+pub fn play(bytes: &[u8], smooths: &[f32], figures: &mut Figures) -> Played {
+    let smooth = |i: usize| smooths.get(i).copied().unwrap_or(0.0);
+    let mut reader = Reader::new(bytes);
+    let Some((settings, seed)) = reader.make() else {
+        let nothing = Played {
+            out: vec![],
+            entries: vec![],
+            ending: Ending::Malformed,
+            zeros: false,
+        };
+        return malformed(nothing, figures);
+    };
+    let mut playing = match make((&settings, seed), smooth(0), figures) {
+        Ok(playing) => playing,
+        Err(played) => return played,
+    };
+    while !reader.at_end() {
+        let Some(call) = reader.call() else {
+            let (played, figures) = ended(playing);
+            return malformed(played, figures);
+        };
+        let i = playing.played.entries.len();
+        playing.call(&call, smooth(i));
+    }
+    let (played, figures) = ended(playing);
+    figures.endings[0] += 1;
+    played
+}
+
+/// Plays a run as it is, by no bytes: what the reading is held to.
+pub fn play_run(run: &Run, smooths: &[f32], figures: &mut Figures) -> Played {
+    let smooth = |i: usize| smooths.get(i).copied().unwrap_or(0.0);
+    let mut playing = match make((&run.settings, run.seed), smooth(0), figures) {
+        Ok(playing) => playing,
+        Err(played) => return played,
+    };
+    for (i, call) in run.calls.iter().enumerate() {
+        playing.call(call, smooth(i + 1));
+    }
+    let (played, figures) = ended(playing);
+    figures.endings[0] += 1;
+    played
+}

@@ -1,0 +1,266 @@
+//! Whole runs against the Rust source: the bytes that `lfo_run` of crates/oracle gives against those of reference.rs, every byte of `out`.
+//! A run is made from its seed (adverse.rs); run i of a comparison has the seed SEED + i, so that `compare runs 1 S` plays the run of seed S alone.
+use crate::adverse::{Made, made};
+use crate::figures::{CALLS, Figures};
+use crate::reference::{Entry, Played, play, play_run};
+use crate::run::Run;
+use crate::shrunk::{show_run, shrunk};
+use crate::tally::ZERO_OF_MAX;
+use crate::values::Values;
+use crate::written::long_runs;
+use std::time::Instant;
+
+/// Takes the bytes of a run and `out`, answers how many bytes it wrote.
+pub type Oracle = fn(&[u8], &mut [u8]) -> u64;
+
+/// What a comparison is to play: so many runs, and more until so many frames.
+pub struct Wanted {
+    pub runs: u64,
+    pub frames: u64,
+    pub seed: u64,
+    /// With phase reads.
+    pub phase: bool,
+}
+
+struct Comparison {
+    oracle: Option<Oracle>,
+    figures: Figures,
+    differed: u64,
+    known: u64,
+}
+
+/// Numbers as they stand in bytes.
+pub fn numbers(bytes: &[u8]) -> Vec<u64> {
+    let groups = bytes.split_inclusive(|b| *b < 128);
+    let value = |group: &[u8]| {
+        let groups = group.iter().take(10).enumerate();
+        groups.fold(0u128, |sum, (i, b)| sum | u128::from(b & 127) << (7 * i)) as u64
+    };
+    groups.map(value).collect()
+}
+
+// What stands at a place of a call's numbers.
+fn place(e: &Entry, i: usize) -> String {
+    let before = usize::from(e.tag == 5 && e.answer == 0);
+    let first = 1 + before;
+    let x_len = e.x_len as usize;
+    match i {
+        0 => "the answer".into(),
+        1 if before == 1 => "finished".into(),
+        _ if e.tag != 5 => format!("value {i}"),
+        _ if i - first < x_len => format!("x of frame {}", i - first),
+        _ => format!("y of frame {}", i - first - x_len),
+    }
+}
+
+// The first number that differs: its call, what it is, and both.
+fn first_difference(played: &Played, ours: &[u8]) -> String {
+    let mut start = 0;
+    for (i, e) in played.entries.iter().enumerate() {
+        let rust = &played.out[start..e.end];
+        if ours.get(start..e.end) != Some(rust) {
+            let (ours, rust) = (numbers(&ours[start.min(ours.len())..]), numbers(rust));
+            let at = (0..rust.len())
+                .find(|k| ours.get(*k) != Some(&rust[*k]))
+                .unwrap_or(0);
+            let ours = ours.get(at).map_or("nothing".into(), |n| format!("{n:x}"));
+            let name = CALLS[e.tag];
+            let what = place(e, at);
+            return format!(
+                "call {i} ({name}), {what}: ours {ours}, Rust {:x}",
+                rust[at]
+            );
+        }
+        start = e.end;
+    }
+    format!(
+        "after call {}: ours {:02x?}, Rust {:02x?} ({:?})",
+        played.entries.len(),
+        &ours[start.min(ours.len())..],
+        &played.out[start..],
+        played.ending
+    )
+}
+
+// Whether each difference is a 0 of ours where the Rust has −0, in a run where `max` was put both.
+fn is_zero_of_max(played: &Played, ours: &[u8]) -> bool {
+    let (ours, rust) = (numbers(ours), numbers(&played.out));
+    played.zeros
+        && ours.len() == rust.len()
+        && ours
+            .iter()
+            .zip(&rust)
+            .all(|(a, b)| a == b || (*a == 0 && *b == 0x8000_0000))
+}
+
+/// What a function gives with room for all, and more than that to spare.
+fn whole(oracle: Oracle, bytes: &[u8], played: &Played) -> Vec<u8> {
+    let mut out = vec![0; played.out.len() + 65_536];
+    let n = oracle(bytes, &mut out) as usize;
+    out.truncate(n);
+    out
+}
+
+fn has_phase(bytes: &[u8]) -> bool {
+    let played = play(bytes, &[], &mut Figures::default());
+    played.entries.iter().any(|e| e.tag == 4)
+}
+
+pub fn hex(bytes: &[u8]) -> String {
+    bytes.iter().map(|b| format!("{b:02x}")).collect()
+}
+
+// Whether a run differs, but for the zero of `max`.
+fn differs(oracle: Oracle, run: &Run) -> bool {
+    let bytes = run.bytes();
+    let played = play(&bytes, &[], &mut Figures::default());
+    let ours = whole(oracle, &bytes, &played);
+    ours != played.out && !is_zero_of_max(&played, &ours)
+}
+
+impl Comparison {
+    fn new(oracle: Option<Oracle>) -> Self {
+        Self {
+            oracle,
+            figures: Figures::default(),
+            differed: 0,
+            known: 0,
+        }
+    }
+
+    // Says how many runs and frames were compared, and answers whether all differences are known.
+    fn right(&self, start: Instant) -> bool {
+        let seconds = start.elapsed().as_secs_f64();
+        if self.oracle.is_none() {
+            println!("crates/oracle is not linked: the reference was held to itself");
+        }
+        println!(
+            "runs       {:>11} compared, {} frames, {} differed ({} by {ZERO_OF_MAX}), {seconds:.1} s",
+            self.figures.runs, self.figures.frames, self.differed, self.known
+        );
+        self.differed == self.known && self.figures.bank_differed == 0
+    }
+
+    // A length of `out`: room for all in most runs; now and then about the end of some call's bytes, or any shorter one.
+    fn out_len(v: &mut Values, played: &Played) -> usize {
+        let full = played.out.len();
+        if !v.one_in(12) {
+            return full + v.index(24);
+        }
+        if played.entries.is_empty() || v.one_in(4) {
+            return v.index(full + 1);
+        }
+        let end = played.entries[v.index(played.entries.len())].end;
+        (end + v.index(3)).saturating_sub(1)
+    }
+
+    fn show_difference(&mut self, seed: u64, made: &Made, played: &Played, oracle: Oracle) {
+        let ours = whole(oracle, &made.bytes, played);
+        if is_zero_of_max(played, &ours) {
+            self.known += 1;
+            if self.known == 1 {
+                let what = first_difference(played, &ours);
+                println!("known: {ZERO_OF_MAX}, first in the run of seed {seed}, {what}");
+            }
+            return;
+        }
+        if self.differed - self.known > 10 {
+            return;
+        }
+        println!(
+            "runs differ, seed {seed}: {}",
+            first_difference(played, &ours)
+        );
+        if made.spoiled {
+            println!("    spoiled bytes {}", hex(&made.bytes));
+        }
+        if made.spoiled || made.run.calls.len() > 100 {
+            return;
+        }
+        let run = shrunk(&made.run, |run| differs(oracle, run));
+        let bytes = run.bytes();
+        let played = play(&bytes, &[], &mut Figures::default());
+        let ours = whole(oracle, &bytes, &played);
+        let what = first_difference(&played, &ours);
+        println!("    with {} calls: {what}", run.calls.len());
+        println!("    bytes {}", hex(&bytes));
+        if bytes.len() <= 1000 {
+            show_run(&run);
+        }
+    }
+
+    fn run(&mut self, seed: u64, made: &Made, phase: bool) {
+        // spoiled bytes can read as a phase read
+        if !phase && made.spoiled && has_phase(&made.bytes) {
+            return;
+        }
+        let played = play(&made.bytes, &made.smooths, &mut self.figures);
+        self.figures.runs += 1;
+        let Some(oracle) = self.oracle else {
+            self.check_reading(seed, made, &played);
+            return;
+        };
+        let mut v = Values::new(!seed);
+        let out_len = Self::out_len(&mut v, &played);
+        let written = played.fits(out_len);
+        self.figures.short += u64::from(written < played.out.len());
+        let fill = v.word() as u8;
+        let mut out = vec![fill; out_len];
+        let n = oracle(&made.bytes, &mut out);
+        let same = n == written as u64
+            && out[..written] == played.out[..written]
+            && out[written..].iter().all(|b| *b == fill);
+        if !same {
+            self.differed += 1;
+            if whole(oracle, &made.bytes, &played) != played.out {
+                self.show_difference(seed, made, &played, oracle);
+            } else if self.differed - self.known <= 10 {
+                println!(
+                    "runs differ, seed {seed}: `out` of {out_len} bytes, wrote {n}, by RUN.md {written}; bytes {}",
+                    hex(&made.bytes)
+                );
+            }
+        }
+    }
+
+    // With no oracle: the bytes of a run must read as that run.
+    fn check_reading(&mut self, seed: u64, made: &Made, played: &Played) {
+        if !made.spoiled {
+            let direct = play_run(&made.run, &made.smooths, &mut Figures::default());
+            if direct.out != played.out {
+                self.differed += 1;
+                println!("the reading differs, seed {seed}");
+            }
+        }
+    }
+}
+
+/// Compares runs and answers whether every difference is a known one.
+pub fn compare(oracle: Option<Oracle>, wanted: &Wanted) -> bool {
+    let start = Instant::now();
+    let mut c = Comparison::new(oracle);
+    let mut i = 0;
+    while i < wanted.runs || c.figures.frames < wanted.frames {
+        let seed = wanted.seed.wrapping_add(i);
+        c.run(seed, &made(seed, wanted.phase), wanted.phase);
+        i += 1;
+    }
+    c.figures.show(wanted.phase);
+    c.right(start)
+}
+
+/// Compares the long runs (written.rs).
+pub fn compare_long(oracle: Option<Oracle>) -> bool {
+    let start = Instant::now();
+    let mut c = Comparison::new(oracle);
+    for (i, run) in long_runs().into_iter().enumerate() {
+        let made = Made {
+            bytes: run.bytes(),
+            run,
+            smooths: vec![],
+            spoiled: false,
+        };
+        c.run(i as u64, &made, false);
+    }
+    c.right(start)
+}

@@ -1,0 +1,506 @@
+//! The runs that the program `replay` plays with no Rust at hand: `harness vectors runs ../crates/replay` writes its files `stdin`, the runs, and
+//! `stdout`, what comes out. Each run is made here for what it shows; the answers are the reference's (reference.rs).
+use crate::adverse::{Adverse, coefficient, made};
+use crate::figures::{Figures, MAKE};
+use crate::lfo::{Direction, Division, Feel, LfoType, Mode, Rate, Scale, Settings, Span};
+use crate::player::bits;
+use crate::questions::{self, APPLY};
+use crate::reference::play;
+use crate::run::{Call, Point, Present, settings_bits};
+use crate::runs::hex;
+use crate::values::{DIRECTIONS, FEELS, KINDS, MODES, Values};
+use crate::written::{Written, bent, bowed, eighth, hertz, moved, path, point, shape, synced};
+use crate::{refused, spoiled};
+use std::fs;
+use std::path::Path;
+
+type List = Vec<Vec<u8>>;
+
+fn add(list: &mut List, written: Written) {
+    list.push(written.run.bytes());
+}
+
+const NONE: Present<u64> = Present::No;
+
+// ---- what is played
+
+// Document 01's sheet.
+fn sheet(list: &mut List) {
+    let s = Settings {
+        rate: hertz(250.0),
+        ..Settings::default()
+    };
+    add(
+        list,
+        Written::new(&s).at(|t| t.tempo = 120.0).block(4, NONE),
+    );
+}
+
+fn kinds(list: &mut List) {
+    for kind in KINDS {
+        for mode in MODES {
+            for direction in DIRECTIONS {
+                let s = Settings {
+                    direction,
+                    ..eighth(kind, mode)
+                };
+                let mut w = Written::new(&s);
+                if kind == LfoType::Drawn {
+                    w = w.with(Call::Shape(bent())).bus(1, 0.5);
+                } else if kind == LfoType::Path {
+                    let open = direction == Direction::Reverse;
+                    w = w.with(Call::Path(bowed(!open)));
+                }
+                w = w.block(2, NONE).block(5, Present::Yes(1)).bus(0, 0.25);
+                add(list, w.block(4, NONE));
+            }
+        }
+    }
+}
+
+fn rates(list: &mut List) {
+    for i in 0..15 {
+        let s = Settings {
+            rate: synced(i, FEELS[usize::from(i % 3)]),
+            mode: MODES[usize::from(i % 2)],
+            ..Settings::default()
+        };
+        let w = Written::new(&s).at(|t| t.scale = Scale::Rate(1000.0));
+        add(list, w.block(3, Present::Yes(1)).block(2, NONE));
+    }
+    for (hz, x10) in [
+        (0.0, false),
+        (-0.0, false),
+        (100.0, false),
+        (100.5, false),
+        (250.0, true),
+        (1000.0, true),
+        (1500.0, true),
+        (-3.0, true),
+    ] {
+        let s = Settings {
+            rate: Rate::Hz { hz, x10 },
+            ..Settings::default()
+        };
+        add(list, Written::new(&s).block(5, Present::Yes(1)));
+    }
+    for scale in [
+        Scale::Percent(10.0),
+        Scale::Percent(1000.0),
+        Scale::Percent(5.0),
+        Scale::Rate(10.0),
+        Scale::Rate(2000.0),
+    ] {
+        let w = Written::new(&eighth(LfoType::Drawn, Mode::Restart));
+        add(list, w.at(|t| t.scale = scale).block(4, NONE));
+    }
+    for tempo in [0.0, -0.0, 1e-300] {
+        let s = Settings {
+            rate: synced(9, Feel::Straight),
+            fade_in: Span::Synced(Division::N256),
+            ..Settings::default()
+        };
+        let w = Written::new(&s).at(|t| t.tempo = tempo);
+        let w = w.block(3, Present::Yes(0)).at(|t| t.tempo = 500.0);
+        add(list, w.block(3, NONE));
+    }
+}
+
+fn spans(list: &mut List) {
+    let of = |d: u8| Span::Synced(Division::new(d).expect("a division"));
+    for (delay, fade_in) in [
+        (Span::Seconds(0.002), Span::Seconds(0.004)),
+        (Span::Off, Span::Seconds(0.0034)),
+        (Span::Seconds(0.0025), Span::Off),
+        (Span::Seconds(-1.0), Span::Seconds(-0.0)),
+        (Span::Seconds(40.0), Span::Off),
+        (of(13), of(14)),
+        (of(12), Span::Off),
+        (Span::Off, of(6)),
+        (Span::Off, of(0)),
+    ] {
+        let s = Settings {
+            delay,
+            fade_in,
+            ..eighth(LfoType::Drawn, Mode::Restart)
+        };
+        let w = Written::new(&s).block(2, NONE);
+        add(list, w.block(9, Present::Yes(1)));
+    }
+}
+
+fn locked(list: &mut List) {
+    for mode in MODES {
+        for rate in [hertz(60.0), synced(9, Feel::Dotted)] {
+            let s = Settings {
+                mode,
+                rate,
+                song_lock: true,
+                phase: 90.0,
+                ..Settings::default()
+            };
+            let w = Written::new(&s).at(|t| (t.beats, t.seconds) = (-0.125, -0.003));
+            let w = w.at(|t| t.playing = true).block(4, NONE);
+            let w = w.at(|t| t.playing = false).block(2, NONE);
+            let w = w.at(|t| t.playing = true).block(3, Present::Yes(1));
+            add(list, w);
+        }
+    }
+    for swing in [0.0, 0.5, 1.0, 2.0, -0.0] {
+        let s = Settings {
+            rate: synced(10, Feel::Straight),
+            swing: true,
+            kind: if swing == 1.0 {
+                LfoType::SampleAndHold
+            } else {
+                LfoType::Drawn
+            },
+            ..Settings::default()
+        };
+        let w = Written::new(&s).at(|t| t.swing = swing);
+        add(list, w.block(12, Present::Yes(0)));
+    }
+}
+
+fn smoothing(list: &mut List) {
+    for (kind, smooth) in [
+        (LfoType::Drawn, 50.0),
+        (LfoType::Path, 100.0),
+        (LfoType::SampleAndHold, 1.0),
+    ] {
+        let mut w = Written::new(&eighth(kind, Mode::Restart));
+        w.run.settings.smooth = coefficient(&w.run.settings, smooth, &w.transport);
+        add(list, w.block(4, NONE).block(4, Present::Yes(2)));
+    }
+    for a in [0.0, -0.0, 1.0, 0.3] {
+        let mut w = Written::new(&eighth(LfoType::Path, Mode::Restart));
+        w.run.settings.smooth = Present::Yes(bits(a));
+        let off = eighth(LfoType::Drawn, Mode::Restart);
+        add(list, w.block(4, NONE).settings(&off).block(2, NONE));
+    }
+}
+
+fn starts(list: &mut List) {
+    for (phase, phase_snap, grid_x) in [
+        (0.0, false, 8),
+        (-0.0, false, 8),
+        (90.0, false, 8),
+        (360.0, false, 8),
+        (400.0, false, 8),
+        (-10.0, false, 8),
+        (100.0, true, 3),
+        (100.0, true, 0),
+        (179.9, true, 65_535),
+        (359.0, true, 1),
+    ] {
+        let kind = if grid_x == 3 {
+            LfoType::Lorenz
+        } else {
+            LfoType::Drawn
+        };
+        let s = Settings {
+            phase,
+            phase_snap,
+            grid_x,
+            ..eighth(kind, Mode::Restart)
+        };
+        add(list, Written::new(&s).block(3, Present::Yes(0)));
+    }
+    for (frames, at) in [
+        (0, 0),
+        (0, 1),
+        (1, 0),
+        (1, 1),
+        (4, 4),
+        (4, 5),
+        (4, u64::MAX),
+    ] {
+        let w = Written::new(&eighth(LfoType::SampleAndHold, Mode::Restart));
+        let w = w.block(3, NONE).block(frames, Present::Yes(at));
+        add(list, w.block(2, NONE));
+    }
+    // One-shot: finished with the frame that reaches one cycle, not before
+    for frames in [8, 9] {
+        let w = Written::new(&eighth(LfoType::Rossler, Mode::OneShot));
+        let w = w.block(0, Present::Yes(0)).block(frames, NONE);
+        add(list, w.block(0, NONE));
+    }
+}
+
+fn curves(list: &mut List) {
+    for (i, mode) in [Mode::OneShot, Mode::Restart].into_iter().enumerate() {
+        for index in 0..3 {
+            let mut s = bent();
+            s.loopback = Present::Yes(index + i as u64);
+            let direction = DIRECTIONS[index as usize];
+            let rate = hertz(300.0);
+            let settings = Settings {
+                direction,
+                rate,
+                ..eighth(LfoType::Drawn, mode)
+            };
+            let w = Written::new(&settings).with(Call::Shape(s));
+            add(list, w.block(8, Present::Yes(0)));
+        }
+    }
+    for count in [0, 1, 2] {
+        let points: Vec<Point> = (0..count).map(|i| point(0.5, i as f32, 0.5)).collect();
+        let w = Written::new(&eighth(LfoType::Drawn, Mode::Restart));
+        let w = w.with(Call::Shape(shape(points, Present::No)));
+        add(list, w.block(6, NONE));
+        let places = [(0.25, 0.75, 1.0), (0.25, 0.75, 1.0)];
+        let w = Written::new(&eighth(LfoType::Path, Mode::Restart));
+        let w = w.with(Call::Path(path(&places[..count], count == 2)));
+        add(list, w.block(4, NONE));
+    }
+    // buses: equal zeros, far out, one above 15
+    for (bus, value) in [(0, -0.0), (0, f32::MAX), (1, -1e30), (2, 1.0)] {
+        let mut s = bent();
+        s.points[4].mods[1] = moved(16, -1.0);
+        s.points[1].mods[0] = moved(2, 0.3);
+        let w = Written::new(&eighth(LfoType::Drawn, Mode::Restart)).with(Call::Shape(s));
+        add(list, w.block(3, NONE).bus(bus, value).block(5, NONE));
+    }
+    // more than 64 points, what is past them being no point's
+    let mut many: Vec<Point> = (0..65).map(|i| point(i as f32 / 64.0, 0.5, 0.0)).collect();
+    many[64].step = 2;
+    many[64].x = bits(f32::NAN);
+    let w = Written::new(&eighth(LfoType::Drawn, Mode::Restart));
+    let w = w.with(Call::Shape(shape(many, Present::Yes(63))));
+    add(list, w.block(3, NONE));
+    // a gap of 2^-128 gives NaN
+    let points = vec![point(0.0, 0.0, 0.0), point(1e-40, 1.0, 0.0)];
+    let s = shape(points, Present::No);
+    let x = bits(1e-41);
+    let at = Call::ShapeAt {
+        shape: s.clone(),
+        x,
+    };
+    let w = Written::new(&eighth(LfoType::Drawn, Mode::Restart)).with(at);
+    add(list, w.with(Call::Shape(s)).block(2, NONE));
+}
+
+fn changes(list: &mut List) {
+    let lorenz = eighth(LfoType::Lorenz, Mode::Restart);
+    let drawn = eighth(LfoType::Drawn, Mode::Restart);
+    let w = Written::new(&lorenz).block(3, NONE).settings(&drawn);
+    add(list, w.clone().settings(&lorenz).block(2, NONE));
+    add(list, w.block(0, NONE).settings(&lorenz).block(2, NONE));
+    let w = Written::new(&lorenz).block(2, NONE).bus(3, 1.0);
+    add(list, w.block(2, NONE));
+    let free = eighth(LfoType::Drawn, Mode::Free);
+    let w = Written::new(&free)
+        .block(3, Present::Yes(1))
+        .settings(&drawn);
+    add(list, w.block(3, NONE));
+    let w = Written::new(&drawn)
+        .block(3, NONE)
+        .with(Call::Shape(bent()));
+    let slow = Settings {
+        rate: hertz(-0.0),
+        ..drawn
+    };
+    add(list, w.block(3, NONE).settings(&slow).block(2, NONE));
+}
+
+fn evaluations(list: &mut List) {
+    let w = || Written::new(&Settings::default());
+    for xs in [[0.0, 0.25], [-0.0, 0.75], [-1.0, 2.0], [0.1, 0.6]] {
+        let at = |x: f32| Call::ShapeAt {
+            shape: bent(),
+            x: bits(x),
+        };
+        add(list, w().with(at(xs[0])).with(at(xs[1])));
+    }
+    for ts in [[0.0, 1.0], [-0.0, 0.5], [-1.0, 2.0], [0.9, 0.2]] {
+        let at = |closed: bool, t: f32| Call::PathAt {
+            path: bowed(closed),
+            t: bits(t),
+        };
+        add(list, w().with(at(true, ts[0])).with(at(false, ts[1])));
+    }
+    // supplied numbers other than the source's
+    let mut s = bent();
+    s.strengths = [0.0625, 16.0, 3.0, 0.7, 1.0].map(bits).to_vec();
+    let mut p = bowed(true);
+    p.legs = [0.0, 2.0, 0.5].map(bits).to_vec();
+    for kind in [LfoType::Drawn, LfoType::Path] {
+        let w = Written::new(&eighth(kind, Mode::Restart)).with(Call::Shape(s.clone()));
+        add(list, w.with(Call::Path(p.clone())).block(8, NONE));
+    }
+}
+
+fn phases(list: &mut List) {
+    for mode in MODES {
+        let s = Settings {
+            phase: 45.0,
+            ..eighth(LfoType::Drawn, mode)
+        };
+        let w = Written::new(&s).phase().block(3, Present::Yes(1)).phase();
+        add(list, w.settings(&Settings::default()).phase());
+    }
+    for (phase, beats) in [(-0.0, 0.0), (0.0, -1e-20), (360.0, 2_147_483_647.0)] {
+        let s = Settings {
+            phase,
+            song_lock: beats != 0.0,
+            rate: if beats == 0.0 {
+                hertz(-0.0)
+            } else {
+                synced(7, Feel::Triplet)
+            },
+            ..Settings::default()
+        };
+        let w = Written::new(&s).at(|t| (t.beats, t.playing) = (beats, true));
+        add(
+            list,
+            w.block(0, Present::Yes(0)).at(|t| t.beats = beats).phase(),
+        );
+    }
+}
+
+// ---- what is refused
+
+// Each number that can be the answer to each call, twice.
+fn refusals(list: &mut List) {
+    let mut a = Adverse::new(4);
+    for tag in 0..APPLY.len() {
+        for number in APPLY[tag].iter().filter(|n| **n != 8) {
+            for _ in 0..2 {
+                add(list, refusal(&mut a, tag, *number));
+            }
+        }
+    }
+}
+
+fn refusal(a: &mut Adverse, tag: usize, number: u64) -> Written {
+    let w = Written::new(&eighth(LfoType::Drawn, Mode::Restart));
+    loop {
+        let mut call = match tag {
+            0 | MAKE => Call::Settings(settings_bits(&Settings::default())),
+            1 => Call::Shape(bent()),
+            2 => Call::Path(bowed(false)),
+            5 => w.clone().block(3, NONE).run.calls.remove(0),
+            6 => Call::ShapeAt {
+                shape: bent(),
+                x: 0,
+            },
+            7 => Call::PathAt {
+                path: bowed(true),
+                t: 0,
+            },
+            _ => a.call(tag).0,
+        };
+        refused::refuse(&mut a.v, &mut call);
+        if let Call::Block(b) = &mut call {
+            (b.x_len, b.y_len) = (b.x_len.min(4), b.y_len.min(4));
+        }
+        if questions::answer(&call, 0) != number {
+            continue;
+        }
+        let mut w = w.clone();
+        return match call {
+            Call::Settings(s) if tag == MAKE => {
+                w.run.settings = s;
+                w
+            }
+            Call::Shape(_) | Call::Path(_) if number == 3 => w.with(call).block(2, NONE),
+            _ => w.with(call).block(1, NONE),
+        };
+    }
+}
+
+fn malformed(list: &mut List) {
+    let mut v = Values::new(11);
+    for way in (0..spoiled::WAYS).chain([5, 6, 5, 6, 5, 6, 0, 0, 2, 3, 3, 4, 9, 10]) {
+        let w = Written::new(&eighth(LfoType::Path, Mode::Free)).block(2, Present::Yes(1));
+        list.push(spoiled::by(&mut v, &w.bus(3, 0.5).run, way));
+    }
+}
+
+// Adverse runs as they are compared, those that are short.
+fn adverse(list: &mut List) {
+    let mut wanted = 40;
+    for seed in 0.. {
+        let m = made(seed, true);
+        let played = play(&m.bytes, &m.smooths, &mut Figures::default());
+        let blocks = played
+            .entries
+            .iter()
+            .filter(|e| e.tag == 5 && e.answer == 0);
+        if m.bytes.len() + played.out.len() <= 500 && blocks.count() >= 2 {
+            list.push(m.bytes);
+            wanted -= 1;
+        }
+        if wanted == 0 {
+            return;
+        }
+    }
+}
+
+/// A run with the length of the output that it is given.
+struct Stored {
+    bytes: Vec<u8>,
+    room: usize,
+}
+
+impl Stored {
+    /// Both lengths, two bytes each, lower first, and the run.
+    fn stdin(&self) -> Vec<u8> {
+        let length = |n: usize| u16::try_from(n).unwrap().to_le_bytes();
+        [
+            &length(self.bytes.len())[..],
+            &length(self.room)[..],
+            &self.bytes[..],
+        ]
+        .concat()
+    }
+}
+
+/// Every run with just enough room, and of each tenth the same with one byte too few and with half.
+fn with_room(list: &[Vec<u8>], figures: &mut Figures) -> Vec<(Stored, Vec<u8>)> {
+    let mut stored = vec![];
+    for (i, bytes) in list.iter().enumerate() {
+        let played = play(bytes, &[], figures);
+        figures.runs += 1;
+        let all = played.out.len();
+        let rooms = if i % 10 == 0 && all > 1 {
+            vec![all, all - 1, all / 2]
+        } else {
+            vec![all]
+        };
+        for room in rooms {
+            let out = played.out[..played.fits(room)].to_vec();
+            let bytes = bytes.clone();
+            stored.push((Stored { bytes, room }, out));
+        }
+    }
+    stored
+}
+
+/// Writes the two files into `dir`.
+pub fn runs(dir: &Path) {
+    let mut list = vec![];
+    sheet(&mut list);
+    kinds(&mut list);
+    rates(&mut list);
+    spans(&mut list);
+    locked(&mut list);
+    smoothing(&mut list);
+    starts(&mut list);
+    curves(&mut list);
+    changes(&mut list);
+    evaluations(&mut list);
+    phases(&mut list);
+    refusals(&mut list);
+    malformed(&mut list);
+    adverse(&mut list);
+    let mut figures = Figures::default();
+    let stored = with_room(&list, &mut figures);
+    let stdin: Vec<u8> = stored.iter().flat_map(|(s, _)| s.stdin()).collect();
+    let stdout: String = stored.iter().map(|(_, out)| hex(out) + "\n").collect();
+    fs::write(dir.join("stdin"), &stdin).unwrap();
+    fs::write(dir.join("stdout"), &stdout).unwrap();
+    let sizes = (stdin.len(), stdout.len());
+    eprintln!("{} runs, {} and {} bytes", stored.len(), sizes.0, sizes.1);
+    eprint!("{figures}");
+}
