@@ -18,7 +18,8 @@ use Rattle.player.specs.declared.Changed.{Changed}
 use Rattle.player.specs.Player.{stateOf, Valid}
 use Rattle.player.specs.Promises.{Makes, Changes}
 use Rattle.oracle.specs.declared.Reply.{Reply}
-use Rattle.oracle.specs.Asked.{Asked, call, callNumbers, numbers, stateAfter}
+use Rattle.oracle.specs.Asked.{Asked, call}
+use Rattle.oracle.specs.Numbers.{callNumbers, numbers, stateAfter}
 use Rattle.oracle.specs.Output.{givenBy, make, givenFrom}
 use Rattle.oracle.specs.Promises.{givenOf, replyOf, nowhere, Says, Replies, Begins}
 

@@ -14,7 +14,8 @@ use Rattle.replies.specs.Replies.{bytesOf, fits}
 use Rattle.runs.specs.Parser.{Parsed, read, malformed, Parser, _then_, done}
 use Rattle.runs.specs.Fields.{number}
 use Rattle.runs.specs.Records.{settings}
-use Rattle.oracle.specs.Asked.{Asked, asked, numbers, stateAfter}
+use Rattle.oracle.specs.Asked.{Asked, asked}
+use Rattle.oracle.specs.Numbers.{numbers, stateAfter}
 
 -- "Where the bytes of a call are malformed, the output ends with the number 255"
 abbrev pub ill : List (List ℕ)

@@ -3,6 +3,7 @@ use Prim.Native.Nat.{ℕ, _+_, _≤_}
 use mathlib.Core.Path.{_≡_}
 use mathlib.Core.Bool.{true, false, cond}
 use mathlib.Core.List.{List, [], _∷_, _++_}
+use lib.Dec.{eqb}
 use lib.ListN.{length, take}
 use Rattle.listlaws.specs.Over.{over}
 use Rattle.number.specs.declared.Writing.{Writing}
@@ -19,6 +20,10 @@ use Rattle.oracle.specs.Output.{given, givenBy, make, givenFrom, fitting
 -- what a call as it was read gives, and those behind it
 abbrev pub givenOf : Player → List ℕ → Parsed Asked → ℕ → List (List ℕ)
 givenOf p run a most = givenBy (stateOf p) (λ q. given most q run) a
+
+-- how many numbers a block gives before its buffers, by its answer
+abbrev pub howMany : ℕ → ℕ
+howMany n = cond (eqb n 0) 2 1
 
 -- one number, and where the run goes on
 abbrev pub replyOf : ℕ → Place → Player → Reply

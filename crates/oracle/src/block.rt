@@ -14,8 +14,9 @@ ghost use lib.ListN.{length};
 ghost use Rattle.player.specs.Player.{Valid};
 ghost use Rattle.runs.specs.Parser.{onward, read};
 ghost use Rattle.calls.specs.Calls as Calls;
-ghost use Rattle.oracle.specs.Asked.{call, sevens, blockCall, flagOf, howMany};
-ghost use Rattle.oracle.specs.Promises.{givenOf, Turns};
+ghost use Rattle.oracle.specs.Asked.{call, sevens, blockCall};
+ghost use Rattle.oracle.specs.Numbers.{flagOf};
+ghost use Rattle.oracle.specs.Promises.{howMany, givenOf, Turns};
 
 // The most elements of a buffer.
 const MOST: usize = 8192;

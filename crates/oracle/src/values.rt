@@ -8,7 +8,8 @@ use runs::Place;
 ghost use mathlib.Core.Path.{_≡_};
 ghost use Rattle.player.specs.Player.{Valid};
 ghost use Rattle.runs.specs.Parser.{onward};
-ghost use Rattle.oracle.specs.Asked.{shapeAtCall, pathAtCall, valueNumbers, placeNumbers};
+ghost use Rattle.oracle.specs.Asked.{shapeAtCall, pathAtCall};
+ghost use Rattle.oracle.specs.Numbers.{valueNumbers, placeNumbers};
 ghost use Rattle.oracle.specs.Promises.{givenOf, Replies, Says};
 
 // The answer's number, and where it is 0 the value's bits.

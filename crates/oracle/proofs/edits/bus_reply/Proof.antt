@@ -2,7 +2,7 @@
 use mathlib.Core.Path.{refl}
 use borrow.Author.Needs.{needs}
 use denote.Ref.{now}
-use Rattle.oracle.specs.Asked.{callNumbers}
+use Rattle.oracle.specs.Numbers.{callNumbers}
 use Rattle.oracle.proofs.Readings.{bus-call}
 use Rattle.oracle.proofs.Replying.{replies-read, replies-ill, edit-answers}
 use Rattle.oracle.proofs.edits.bus_reply.Statement.{statement}

@@ -4,7 +4,7 @@ use native.Mathlib.Omega.{arith}
 use borrow.Author.Needs.{needs}
 use denote.Ref.{now}
 use lib.ListN.{length-take}
-use Rattle.oracle.specs.Asked.{callNumbers}
+use Rattle.oracle.specs.Numbers.{callNumbers}
 use Rattle.oracle.proofs.Readings.{shape-call}
 use Rattle.oracle.proofs.Replying.{replies-read, replies-ill, edit-answers}
 use Rattle.oracle.proofs.edits.shape_reply.Statement.{statement}

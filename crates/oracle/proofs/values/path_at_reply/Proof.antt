@@ -4,7 +4,7 @@ use native.Mathlib.Omega.{arith}
 use borrow.Author.Needs.{needs}
 use denote.Ref.{now}
 use lib.ListN.{length-take}
-use Rattle.oracle.specs.Asked.{placeNumbers, numbers, stateAfter}
+use Rattle.oracle.specs.Numbers.{placeNumbers, numbers, stateAfter}
 use Rattle.oracle.proofs.Readings.{path-at-call}
 use Rattle.oracle.proofs.Replying.{replies-read, replies-ill, says-answers}
 use Rattle.oracle.proofs.values.path_at_reply.Statement.{statement}

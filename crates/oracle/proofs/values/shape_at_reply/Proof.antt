@@ -4,7 +4,7 @@ use native.Mathlib.Omega.{arith}
 use borrow.Author.Needs.{needs}
 use denote.Ref.{now}
 use lib.ListN.{length-take}
-use Rattle.oracle.specs.Asked.{valueNumbers, numbers, stateAfter}
+use Rattle.oracle.specs.Numbers.{valueNumbers, numbers, stateAfter}
 use Rattle.oracle.proofs.Readings.{shape-at-call}
 use Rattle.oracle.proofs.Replying.{replies-read, replies-ill, says-answers}
 use Rattle.oracle.proofs.values.shape_at_reply.Statement.{statement}
