@@ -8,7 +8,8 @@ use lib.Dec.{ltb}
 use lib.ListN.{length, getD}
 use Rattle.calls.specs.State.{State}
 use Rattle.runs.specs.Parser.{Parsed, read, malformed}
-use Rattle.runs.proofs.Ahead.{Ahead, Steady, steady-ahead, steady-done, ahead-then, ahead-number, ahead-below, ahead-f32, ahead-settings, ahead-transport, ahead-restart, ahead-shape, ahead-path}
+use Rattle.runs.proofs.Ahead.{Ahead, Steady, steady-ahead, steady-done, ahead-then, ahead-number, ahead-below, ahead-f32}
+use Rattle.runs.proofs.Ahead.{ahead-settings, ahead-transport, ahead-restart, ahead-shape, ahead-path}
 use Rattle.oracle.specs.Asked.{Asked, none, settingsCall, shapeCall, pathCall, busCall, blockCall, shapeAtCall, pathAtCall, byTag, asked}
 use Rattle.oracle.specs.Numbers.{numbers, stateAfter}
 use Rattle.oracle.specs.Output.{given, givenBy}
@@ -33,8 +34,10 @@ steady-tag (suc (suc (suc (suc (suc zero))))) =
     (ahead-then _ _ ahead-restart λ at.
     steady-ahead
     (ahead-then _ _ (ahead-below 8193) λ x-len. steady-ahead (ahead-then _ _ (ahead-below 8193) λ y-len. steady-done _)))))
-steady-tag (suc (suc (suc (suc (suc (suc zero)))))) = steady-ahead (ahead-then _ _ ahead-shape (λ s. steady-ahead (ahead-then _ _ ahead-f32 (λ x. steady-done _))))
-steady-tag (suc (suc (suc (suc (suc (suc (suc zero))))))) = steady-ahead (ahead-then _ _ ahead-path (λ s. steady-ahead (ahead-then _ _ ahead-f32 (λ t. steady-done _))))
+steady-tag (suc (suc (suc (suc (suc (suc zero)))))) =
+    steady-ahead (ahead-then _ _ ahead-shape (λ s. steady-ahead (ahead-then _ _ ahead-f32 (λ x. steady-done _))))
+steady-tag (suc (suc (suc (suc (suc (suc (suc zero))))))) =
+    steady-ahead (ahead-then _ _ ahead-path (λ s. steady-ahead (ahead-then _ _ ahead-f32 (λ t. steady-done _))))
 steady-tag (suc (suc (suc (suc (suc (suc (suc (suc n)))))))) = steady-none
 
 pub ahead-asked : Ahead asked

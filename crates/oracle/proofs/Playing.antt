@@ -53,7 +53,8 @@ by-answer : (t : Bool) (a f : ℕ) → a ∷ cond t (f ∷ []) [] ≡ take (cond
 by-answer true a f = refl
 by-answer false a f = refl
 
-module _ {p : Player} {t : TransportCodes} {frames : ℕ} {at : RestartCodes} {x y : List Float} {r : Played} {x′ y′ : List Float} (w : Plays p t frames at x y r x′ y′) where
+module _ {p : Player} {t : TransportCodes} {frames : ℕ} {at : RestartCodes} {x y : List Float} {r : Played} {x′ y′ : List Float}
+    (w : Plays p t frames at x y r x′ y′) where
   pub block-numbers : {n f : ℕ} → n ≡ howMany (r .answer) → f ≡ flagOf (r .finished)
       → callNumbers (stateOf p) (Calls.block t frames at x y) ≡ listed (take n (r .answer ∷ f ∷ [])) x′ y′
   unfolding callNumbers blockNumbers
@@ -64,7 +65,8 @@ module _ {p : Player} {t : TransportCodes} {frames : ℕ} {at : RestartCodes} {x
 
 -- ---- a turn
 
-module _ {p : Player} {t : TransportCodes} {frames : ℕ} {at : RestartCodes} {x y : List Float} {r : Played} {x′ y′ : List Float} (w : Plays p t frames at x y r x′ y′)
+module _ {p : Player} {t : TransportCodes} {frames : ℕ} {at : RestartCodes} {x y : List Float} {r : Played} {x′ y′ : List Float}
+    (w : Plays p t frames at x y r x′ y′)
     {n f : ℕ} (n-is : n ≡ howMany (r .answer)) (f-is : f ≡ flagOf (r .finished)) where
   pub block-turned : (run o : List ℕ) (place : ℕ) (next : Place) → next .good ≡ true → {v : Writing} {o′ : List ℕ}
       → Gives o place (listed (take n (r .answer ∷ f ∷ [])) x′ y′) v o′

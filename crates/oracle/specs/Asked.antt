@@ -3,6 +3,8 @@ use Prim.Native.Nat.{ℕ}
 use mathlib.Core.List.{List, [], _∷_}
 use lib.ListN.{getD, replicate}
 use lib.Ieee.{Float, binary32, ofBits}
+use Rattle.settings.specs.declared.record.TransportCodes.{TransportCodes}
+use Rattle.questions.specs.declared.RestartCodes.{RestartCodes}
 use Rattle.curves.specs.declared.PointCodes.{PointCodes}
 use Rattle.curves.specs.declared.PathPointCodes.{PathPointCodes}
 use Rattle.curves.specs.declared.LoopbackCodes.{LoopbackCodes}
@@ -42,6 +44,9 @@ pathCall = path then λ s. done (call (Calls.path (s .points) (s .count) (s .clo
 unfoldable pub busCall : Parser Asked
 busCall = number then λ k. f32 then λ value. done (call (Calls.bus k value))
 
+abbrev pub blockOf : TransportCodes → ℕ → RestartCodes → List Float → List Float → Asked
+blockOf t frames at x y = call (Calls.block t frames at x y)
+
 -- tag 5
 unfoldable pub blockCall : Parser Asked
 blockCall =
@@ -50,7 +55,7 @@ blockCall =
     restart then λ at.
     upTo 8192 then λ x-len.
     upTo 8192 then λ y-len.
-    done (call (Calls.block t frames at (sevens x-len) (sevens y-len)))
+    done (blockOf t frames at (sevens x-len) (sevens y-len))
 
 -- tag 6
 unfoldable pub shapeAtCall : Parser Asked

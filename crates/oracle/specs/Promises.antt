@@ -9,7 +9,7 @@ use Rattle.listlaws.specs.Over.{over}
 use Rattle.number.specs.declared.Writing.{Writing}
 use Rattle.number.specs.declared.Writing.the-variants.{Next, NoRoom}
 use Rattle.runs.specs.declared.fields.Place.{Place}
-use Rattle.runs.specs.Parser.{Parsed}
+use Rattle.runs.specs.Parser.{Parsed, read, Parser, onward}
 use Rattle.player.specs.declared.Player.{Player}
 use Rattle.player.specs.Player.{stateOf, Valid}
 use Rattle.oracle.specs.declared.Reply.{Reply}
@@ -52,6 +52,10 @@ pub record Replies (run : List ℕ) (all : ℕ → List (List ℕ)) (r : Reply) 
   pub given-is : (most : ℕ) → all most ≡ replied run r most
   pub valid : Valid (r .player)
 
+-- the reply to a call that is read from the place `from` on
+abbrev pub RepliesTo : Parser Asked → List ℕ → Place → Player → Reply → Type 0
+RepliesTo q run from p r = Replies run (givenOf p run (onward from (q run))) r
+
 -- the reply to making a player
 pub record Begins (run : List ℕ) (r : Reply) : Type 0 where
   pub long : length (r .numbers) ≡ 3
@@ -73,6 +77,14 @@ pub record Turns (run : List ℕ) (all : ℕ → List (List ℕ)) (x : List ℕ)
   pub rest : (most : ℕ)
       → fitting (length x) place (all most) ≡ written ++ cond (r .going) (fitting (length x) (r .place) (given most (stateOf (r .player)) run (r .at))) []
   pub valid : Valid (r .player)
+
+-- a turn of a call that is read from the place `from` on
+abbrev pub TurnsOn : Parser Asked → List ℕ → Place → Player → List ℕ → ℕ → Turn → List ℕ → Type 0
+TurnsOn q run from p x place r y = Turns run (givenOf p run (onward from (q run))) x place r y
+
+-- a turn of the call a, with the run's next call at `at`
+abbrev pub TurnsBy : Asked → ℕ → Player → List ℕ → ℕ → Turn → List ℕ → Type 0
+TurnsBy a at p x place r y = (run : List ℕ) → Turns run (givenOf p run (read a at)) x place r y
 
 -- the calls from here on, written from the place `place` of x
 pub record Finishes (all : List (List ℕ)) (x : List ℕ) (place : ℕ) (r : ℕ) (y : List ℕ) : Type 0 where

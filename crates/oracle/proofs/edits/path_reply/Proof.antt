@@ -30,4 +30,17 @@ returns-2 c =
     (replies-ill (now (a .run)) (a .p) (path-call (now (a .run)) (c .before .before .before .before .read-path .ensures .0)) (c .before .if1 .left) (s .pre))
 
 pub path-reply-spec : {M : Type 1} → statement M
-path-reply-spec = tie.close (tie.spec (λ c κs. search needs) (λ c. search needs) (λ c κs. search needs) (λ c. search needs) slice-aggregate-set-path (λ c κs. search needs) (λ c. search needs) (λ c κs. search needs) returns (λ c κs. search needs) returns-2)
+path-reply-spec =
+    tie.close
+    (tie.spec
+    (λ c κs. search needs)
+    (λ c. search needs)
+    (λ c κs. search needs)
+    (λ c. search needs)
+    slice-aggregate-set-path
+    (λ c κs. search needs)
+    (λ c. search needs)
+    (λ c κs. search needs)
+    returns
+    (λ c κs. search needs)
+    returns-2)
