@@ -3,3 +3,4 @@ pub mod Turning
 pub mod Readings
 pub mod Replying
 pub mod Playing
+pub mod Enough

@@ -19,9 +19,10 @@ use Rattle.player.specs.declared.Player.{Player}
 use Rattle.player.specs.declared.Played.{Played}
 use Rattle.player.specs.Player.{stateOf, Valid}
 use Rattle.player.specs.Promises.{finishedBy, Plays}
-use Rattle.oracle.specs.Asked.{call, sevens, flagOf, howMany, callNumbers, numbers, stateAfter}
+use Rattle.oracle.specs.Asked.{call, sevens}
+use Rattle.oracle.specs.Numbers.{flagOf, blockNumbers, callNumbers, numbers, stateAfter}
 use Rattle.oracle.specs.Output.{givenBy}
-use Rattle.oracle.specs.Promises.{givenOf, turnOf, Turns}
+use Rattle.oracle.specs.Promises.{howMany, givenOf, turnOf, Turns}
 use Rattle.oracle.proofs.Turning.{turned, same-turns}
 
 -- ---- the buffers
@@ -52,10 +53,11 @@ by-answer : (t : Bool) (a f : ℕ) → a ∷ cond t (f ∷ []) [] ≡ take (cond
 by-answer true a f = refl
 by-answer false a f = refl
 
-module _ {p : Player} {t : TransportCodes} {frames : ℕ} {at : RestartCodes} {x y : List Float} {r : Played} {x′ y′ : List Float} (w : Plays p t frames at x y r x′ y′) where
+module _ {p : Player} {t : TransportCodes} {frames : ℕ} {at : RestartCodes} {x y : List Float} {r : Played} {x′ y′ : List Float}
+    (w : Plays p t frames at x y r x′ y′) where
   pub block-numbers : {n f : ℕ} → n ≡ howMany (r .answer) → f ≡ flagOf (r .finished)
       → callNumbers (stateOf p) (Calls.block t frames at x y) ≡ listed (take n (r .answer ∷ f ∷ [])) x′ y′
-  unfolding callNumbers
+  unfolding callNumbers blockNumbers
   block-numbers n-is f-is =
       rw (n-is, f-is, w .x-is, w .y-is, w .finished-is, w .answer-is)
       (ap (λ l. listed l (buffer (stateOf p) t frames at x y (λ v. v .x) x) (buffer (stateOf p) t frames at x y (λ v. v .y) y))
@@ -63,7 +65,8 @@ module _ {p : Player} {t : TransportCodes} {frames : ℕ} {at : RestartCodes} {x
 
 -- ---- a turn
 
-module _ {p : Player} {t : TransportCodes} {frames : ℕ} {at : RestartCodes} {x y : List Float} {r : Played} {x′ y′ : List Float} (w : Plays p t frames at x y r x′ y′)
+module _ {p : Player} {t : TransportCodes} {frames : ℕ} {at : RestartCodes} {x y : List Float} {r : Played} {x′ y′ : List Float}
+    (w : Plays p t frames at x y r x′ y′)
     {n f : ℕ} (n-is : n ≡ howMany (r .answer)) (f-is : f ≡ flagOf (r .finished)) where
   pub block-turned : (run o : List ℕ) (place : ℕ) (next : Place) → next .good ≡ true → {v : Writing} {o′ : List ℕ}
       → Gives o place (listed (take n (r .answer ∷ f ∷ [])) x′ y′) v o′

@@ -15,7 +15,8 @@ use Rattle.runs.specs.Fields.{number, upTo, f32}
 use Rattle.runs.specs.Records.{settings, transport, restart}
 use Rattle.runs.specs.Curves.{ShapeCodes, PathCodes, shape, path}
 use Rattle.runs.proofs.Laws.{chain, last}
-use Rattle.oracle.specs.Asked.{Asked, call, shapeAt, pathAt, sevens, none, settingsCall, shapeCall, pathCall, busCall, blockCall, shapeAtCall, pathAtCall, byTag, asked}
+use Rattle.oracle.specs.Asked.{Asked, call, shapeAt, pathAt, sevens, none, byTag, asked}
+use Rattle.oracle.specs.Asked.{settingsCall, shapeCall, pathCall, busCall, blockCall, shapeAtCall, pathAtCall}
 use Rattle.oracle.specs.Output.{make}
 
 module _ (run : List ℕ) {from a : Place} where
@@ -23,7 +24,8 @@ module _ (run : List ℕ) {from a : Place} where
   unfolding settingsCall
   settings-call r = chain _ r last
 
-  pub shape-call : {s : ShapeCodes} → Reads (shape run) from s a → Reads (shapeCall run) from (call (Calls.shape (s .points) (s .count) (s .loopback) (s .strengths))) a
+  pub shape-call : {s : ShapeCodes} → Reads (shape run) from s a
+      → Reads (shapeCall run) from (call (Calls.shape (s .points) (s .count) (s .loopback) (s .strengths))) a
   unfolding shapeCall
   shape-call r = chain _ r last
 
@@ -57,7 +59,8 @@ unfolding blockCall
 block-call run r₁ r₂ r₃ r₄ r₅ = chain _ r₁ (chain _ r₂ (chain _ r₃ (chain _ r₄ (chain _ r₅ last))))
 
 -- a tag of no call
-pub other-tag : (tag : ℕ) → (tag ≡ 0 → ⊥) → (tag ≡ 1 → ⊥) → (tag ≡ 2 → ⊥) → (tag ≡ 3 → ⊥) → (tag ≡ 5 → ⊥) → (tag ≡ 6 → ⊥) → (tag ≡ 7 → ⊥) → getD byTag tag none ≡ none
+pub other-tag : (tag : ℕ) → (tag ≡ 0 → ⊥) → (tag ≡ 1 → ⊥) → (tag ≡ 2 → ⊥) → (tag ≡ 3 → ⊥) → (tag ≡ 5 → ⊥) → (tag ≡ 6 → ⊥) → (tag ≡ 7 → ⊥)
+    → getD byTag tag none ≡ none
 unfolding byTag
 other-tag zero n₀ n₁ n₂ n₃ n₅ n₆ n₇ = absurd (n₀ refl)
 other-tag (suc zero) n₀ n₁ n₂ n₃ n₅ n₆ n₇ = absurd (n₁ refl)
@@ -70,7 +73,8 @@ other-tag (suc (suc (suc (suc (suc (suc (suc zero))))))) n₀ n₁ n₂ n₃ n�
 other-tag (suc (suc (suc (suc (suc (suc (suc (suc n)))))))) n₀ n₁ n₂ n₃ n₅ n₆ n₇ = refl
 
 -- a tag, and then its call
-pub tag-then : (run : List ℕ) (at : ℕ) {tag : ℕ} {from : Place} → Reads (number run) (record { at = at; good = true }) tag from → asked run at ≡ onward from (getD byTag tag none run)
+pub tag-then : (run : List ℕ) (at : ℕ) {tag : ℕ} {from : Place} → Reads (number run) (record { at = at; good = true }) tag from
+    → asked run at ≡ onward from (getD byTag tag none run)
 unfolding asked after
 tag-then run at {tag} {from} r = rw (← r .is) (by-good (from .good))
   where

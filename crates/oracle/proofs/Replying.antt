@@ -18,7 +18,8 @@ use Rattle.player.specs.declared.Changed.{Changed}
 use Rattle.player.specs.Player.{stateOf, Valid}
 use Rattle.player.specs.Promises.{Makes, Changes}
 use Rattle.oracle.specs.declared.Reply.{Reply}
-use Rattle.oracle.specs.Asked.{Asked, call, callNumbers, numbers, stateAfter}
+use Rattle.oracle.specs.Asked.{Asked, call}
+use Rattle.oracle.specs.Numbers.{callNumbers, numbers, stateAfter}
 use Rattle.oracle.specs.Output.{givenBy, make, givenFrom}
 use Rattle.oracle.specs.Promises.{givenOf, replyOf, nowhere, Says, Replies, Begins}
 
@@ -49,18 +50,19 @@ replies-none run p q e v = record { long = refl; short = omega arith; given-is =
 pub edit-answers : {p : Player} {c : Call} {r : Changed} → Changes p c r → callNumbers (stateOf p) c ≡ answer (stateOf p) c ∷ []
     → (end : Place) → Answers p (call c) (replyOf (r .answer) end (r .player))
 unfolding numbers stateAfter
-edit-answers w e end = record { long = refl; short = omega arith; numbers-are = e ∙ ap (λ n. n ∷ []) (sym (w .answer-is)); state-is = w .state-is; valid = w .valid }
+edit-answers w e end =
+    record { long = refl; short = omega arith; numbers-are = e ∙ ap (λ n. n ∷ []) (sym (w .answer-is)); state-is = w .state-is; valid = w .valid }
 
 -- a call that touches no player
-pub says-answers : {l : List ℕ} {end : Place} {p : Player} {r : Reply} {a : Asked} → Says l end p r → numbers (stateOf p) a ≡ l → stateAfter (stateOf p) a ≡ stateOf p → Valid p
-    → Answers p a r
+pub says-answers : {l : List ℕ} {end : Place} {p : Player} {r : Reply} {a : Asked} → Says l end p r → numbers (stateOf p) a ≡ l
+    → stateAfter (stateOf p) a ≡ stateOf p → Valid p → Answers p a r
 says-answers w e e′ v =
     record { long = w .long; short = w .short; numbers-are = e ∙ w .numbers-are; state-is = ap stateOf (w .player-is) ∙ sym e′; valid = rw (w .player-is) v }
 
 -- ---- making a player
 
-module _ {run : List ℕ} {from : Place} {c : SettingsCodes} {seed : ℕ} {end : Place} (r : Reads (make run) from (c, seed) end) (good : from .good ≡ true) (at : from .at ≡ 0)
-    {m : Made} (w : Makes c seed m) where
+module _ {run : List ℕ} {from : Place} {c : SettingsCodes} {seed : ℕ} {end : Place} (r : Reads (make run) from (c, seed) end)
+    (good : from .good ≡ true) (at : from .at ≡ 0) {m : Made} (w : Makes c seed m) where
   pub begins-ill : end .good ≡ false → Begins run (replyOf 255 nowhere (m .player))
   unfolding givenFrom
   begins-ill e =

@@ -85,12 +85,14 @@ pub record Goes (run x₀ : List ℕ) (start : ℕ) (all : List (List ℕ)) (x :
   pub room : place ≤ length x₀
   pub valid : Valid p
 
-pub goes-first : (run x : List ℕ) (place n : ℕ) (p : Player) (at : ℕ) → place ≤ length x → Valid p → Goes run x place (given n (stateOf p) run at) x place (n - 0) p at
+pub goes-first : (run x : List ℕ) (place n : ℕ) (p : Player) (at : ℕ) → place ≤ length x → Valid p
+    → Goes run x place (given n (stateOf p) run at) x place (n - 0) p at
 goes-first run x place n p at h v =
     let e : n - 0 ≡ n = omega arith in
     rw e (record { long = refl; bytes = refl; end = refl; room = h; valid = v })
 
-module _ {run x₀ : List ℕ} {start : ℕ} {all : List (List ℕ)} {x : List ℕ} {place left : ℕ} {p : Player} {at : ℕ} (g : Goes run x₀ start all x place left p at) where
+module _ {run x₀ : List ℕ} {start : ℕ} {all : List (List ℕ)} {x : List ℕ} {place left : ℕ} {p : Player} {at : ℕ}
+    (g : Goes run x₀ start all x place left p at) where
   -- no call is left
   pub goes-none : given left (stateOf p) run at ≡ [] → Finishes all x₀ start place x
   unfolding fitting
@@ -107,8 +109,9 @@ module _ {run x₀ : List ℕ} {start : ℕ} {all : List (List ℕ)} {x : List �
   pub goes-past : length run ≤ at → Finishes all x₀ start place x
   goes-past h = goes-none (given-past left (stateOf p) run at h)
 
-module _ {run x₀ : List ℕ} {start : ℕ} {all : List (List ℕ)} {x : List ℕ} {place left : ℕ} {p : Player} {at : ℕ} (g : Goes run x₀ start all x place (suc left) p at)
-    (some : at < length run) {t : Turn} {y : List ℕ} (r : Turns run (givenOf p run (asked run at)) x place t y) where
+module _ {run x₀ : List ℕ} {start : ℕ} {all : List (List ℕ)} {x : List ℕ} {place left : ℕ} {p : Player} {at : ℕ}
+    (g : Goes run x₀ start all x place (suc left) p at) (some : at < length run) {t : Turn} {y : List ℕ}
+    (r : Turns run (givenOf p run (asked run at)) x place t y) where
   -- what is to come is what the turn wrote, and what comes behind it
   split : fitting (length x₀) place (given (suc left) (stateOf p) run at)
       ≡ r .written ++ cond (t .going) (fitting (length x₀) (t .place) (given left (stateOf (t .player)) run (t .at))) []

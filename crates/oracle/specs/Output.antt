@@ -14,7 +14,8 @@ use Rattle.replies.specs.Replies.{bytesOf, fits}
 use Rattle.runs.specs.Parser.{Parsed, read, malformed, Parser, _then_, done}
 use Rattle.runs.specs.Fields.{number}
 use Rattle.runs.specs.Records.{settings}
-use Rattle.oracle.specs.Asked.{Asked, asked, numbers, stateAfter}
+use Rattle.oracle.specs.Asked.{Asked, asked}
+use Rattle.oracle.specs.Numbers.{numbers, stateAfter}
 
 -- "Where the bytes of a call are malformed, the output ends with the number 255"
 abbrev pub ill : List (List ℕ)
@@ -39,7 +40,8 @@ unfoldable pub givenFrom : List ℕ → Parsed (SettingsCodes × ℕ) → List (
 givenFrom run malformed = ill
 givenFrom run (read (c, seed) at) = (firstNo (settingsQuestions c) ∷ []) ∷ cond (makes c) (given (length run) (made c seed) run at) []
 
--- Their bytes from the place `at` of a buffer of `len` bytes on: "Where `out` has no room for what a call gives, nothing of that call is written and the output ends there."
+-- Their bytes from the place `at` of a buffer of `len` bytes on: "Where `out` has no room for what a call gives, nothing of that call is written and the output
+-- ends there."
 unfoldable pub fitting : ℕ → ℕ → List (List ℕ) → List ℕ
 fitting len at [] = []
 fitting len at (l ∷ rest) = cond (fits len at (length (bytesOf l))) (bytesOf l ++ fitting len (at + length (bytesOf l)) rest) []

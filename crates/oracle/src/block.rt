@@ -12,10 +12,9 @@ ghost use mathlib.Core.Bool.{true};
 ghost use Prim.Native.Nat.{_≤_};
 ghost use lib.ListN.{length};
 ghost use Rattle.player.specs.Player.{Valid};
-ghost use Rattle.runs.specs.Parser.{onward, read};
-ghost use Rattle.calls.specs.Calls as Calls;
-ghost use Rattle.oracle.specs.Asked.{call, sevens, blockCall, flagOf, howMany};
-ghost use Rattle.oracle.specs.Promises.{givenOf, Turns};
+ghost use Rattle.oracle.specs.Asked.{sevens, blockOf, blockCall};
+ghost use Rattle.oracle.specs.Numbers.{flagOf};
+ghost use Rattle.oracle.specs.Promises.{howMany, TurnsOn, TurnsBy};
 
 // The most elements of a buffer.
 const MOST: usize = 8192;
@@ -55,7 +54,7 @@ fn play(
     place: usize,
 ) -> Turn
     requires { ⌜ Valid p × (length (now x) ≤ 8192) × (length (now y) ≤ 8192) × (next .good ≡ true) ⌝ }
-    ensures { λ r. ⌜ ((run : _) → Turns run (givenOf p run (read (call (Calls.block t frames restart (now (x .entry)) (now (y .entry)))) (next .at))) (now (out .entry)) place r (now (out .exit))) ⌝ }
+    ensures { λ r. ⌜ TurnsBy (blockOf t frames restart (now (x .entry)) (now (y .entry))) (next .at) p (now (out .entry)) place r (now (out .exit)) ⌝ }
 {
     let r = player::play(p, t, frames, restart, x, y);
     let after = r.player;
@@ -78,7 +77,7 @@ fn play_anew(
     place: usize,
 ) -> Turn
     requires { ⌜ Valid p × («x_len» ≤ 8192) × («y_len» ≤ 8192) × (next .good ≡ true) ⌝ }
-    ensures { λ r. ⌜ ((run : _) → Turns run (givenOf p run (read (call (Calls.block t frames restart (sevens «x_len») (sevens «y_len»))) (next .at))) (now (out .entry)) place r (now (out .exit))) ⌝ }
+    ensures { λ r. ⌜ TurnsBy (blockOf t frames restart (sevens «x_len») (sevens «y_len»)) (next .at) p (now (out .entry)) place r (now (out .exit)) ⌝ }
 {
     let mut x = full();
     let mut y = full();
@@ -97,7 +96,7 @@ fn play_anew(
 
 pub fn block_turn(run: &[u8], from: Place, p: Player, out: &mut [u8], place: usize) -> Turn
     requires { ⌜ Valid p ⌝ }
-    ensures { λ r. ⌜ Turns (now (run .entry)) (givenOf p (now (run .entry)) (onward from (blockCall (now (run .entry))))) (now (out .entry)) place r (now (out .exit)) ⌝ }
+    ensures { λ r. ⌜ TurnsOn blockCall (now (run .entry)) from p (now (out .entry)) place r (now (out .exit)) ⌝ }
 {
     let t = runs::read_transport(run, from);
     let frames = runs::read_number(run, t.next);

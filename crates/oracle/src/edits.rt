@@ -6,14 +6,13 @@ use super::writing::zeros;
 use player::Player;
 use runs::Place;
 ghost use Rattle.player.specs.Player.{Valid};
-ghost use Rattle.runs.specs.Parser.{onward};
 ghost use Rattle.oracle.specs.Asked.{settingsCall, shapeCall, pathCall, busCall};
-ghost use Rattle.oracle.specs.Promises.{givenOf, Replies};
+ghost use Rattle.oracle.specs.Promises.{RepliesTo};
 
 // Tag 0: the settings.
 pub fn settings_reply(run: &[u8], from: Place, p: Player) -> Reply
     requires { ⌜ Valid p ⌝ }
-    ensures { λ r. ⌜ Replies (now (run .entry)) (givenOf p (now (run .entry)) (onward from (settingsCall (now (run .entry))))) r ⌝ }
+    ensures { λ r. ⌜ RepliesTo settingsCall (now (run .entry)) from p r ⌝ }
 {
     let c = runs::read_settings(run, from);
     let next = c.next;
@@ -29,7 +28,7 @@ pub fn settings_reply(run: &[u8], from: Place, p: Player) -> Reply
 // Tag 1: the shape.
 pub fn shape_reply(run: &[u8], from: Place, p: Player) -> Reply
     requires { ⌜ Valid p ⌝ }
-    ensures { λ r. ⌜ Replies (now (run .entry)) (givenOf p (now (run .entry)) (onward from (shapeCall (now (run .entry))))) r ⌝ }
+    ensures { λ r. ⌜ RepliesTo shapeCall (now (run .entry)) from p r ⌝ }
 {
     let mut buffer = zeros();
     let s = runs::read_shape(run, from, &mut buffer);
@@ -48,7 +47,7 @@ pub fn shape_reply(run: &[u8], from: Place, p: Player) -> Reply
 // Tag 2: the path.
 pub fn path_reply(run: &[u8], from: Place, p: Player) -> Reply
     requires { ⌜ Valid p ⌝ }
-    ensures { λ r. ⌜ Replies (now (run .entry)) (givenOf p (now (run .entry)) (onward from (pathCall (now (run .entry))))) r ⌝ }
+    ensures { λ r. ⌜ RepliesTo pathCall (now (run .entry)) from p r ⌝ }
 {
     let mut buffer = zeros();
     let s = runs::read_path(run, from, &mut buffer);
@@ -66,7 +65,7 @@ pub fn path_reply(run: &[u8], from: Place, p: Player) -> Reply
 // Tag 3: one bus.
 pub fn bus_reply(run: &[u8], from: Place, p: Player) -> Reply
     requires { ⌜ Valid p ⌝ }
-    ensures { λ r. ⌜ Replies (now (run .entry)) (givenOf p (now (run .entry)) (onward from (busCall (now (run .entry))))) r ⌝ }
+    ensures { λ r. ⌜ RepliesTo busCall (now (run .entry)) from p r ⌝ }
 {
     let bus = runs::read_number(run, from);
     let value = runs::read_f32(run, bus.next);

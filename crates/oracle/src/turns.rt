@@ -18,10 +18,9 @@ ghost use mathlib.Core.Path.{_≡_};
 ghost use Prim.Native.Nat.{_≤_};
 ghost use lib.ListN.{length, getD};
 ghost use Rattle.player.specs.Player.{stateOf, Valid};
-ghost use Rattle.runs.specs.Parser.{onward};
 ghost use Rattle.oracle.specs.Asked.{byTag, none, asked};
 ghost use Rattle.oracle.specs.Output.{given};
-ghost use Rattle.oracle.specs.Promises.{givenOf, Begins, Replies, Turns, Finishes};
+ghost use Rattle.oracle.specs.Promises.{givenOf, Begins, RepliesTo, Turns, Finishes};
 
 // The run's first bytes make a player. "Where making is refused the output ends after its number."
 pub fn made(run: &[u8]) -> Reply
@@ -46,7 +45,7 @@ pub fn made(run: &[u8]) -> Reply
 // A call other than a block, by its tag.
 fn reply_of(run: &[u8], tag: u64, from: Place, p: Player) -> Reply
     requires { ⌜ Valid p × (tag ≡ 5 → ⊥) ⌝ }
-    ensures { λ r. ⌜ Replies (now (run .entry)) (givenOf p (now (run .entry)) (onward from (getD byTag tag none (now (run .entry))))) r ⌝ }
+    ensures { λ r. ⌜ RepliesTo (getD byTag tag none) (now (run .entry)) from p r ⌝ }
 {
     match tag {
         0 => settings_reply(run, from, p),

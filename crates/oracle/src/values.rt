@@ -7,9 +7,9 @@ use player::Player;
 use runs::Place;
 ghost use mathlib.Core.Path.{_≡_};
 ghost use Rattle.player.specs.Player.{Valid};
-ghost use Rattle.runs.specs.Parser.{onward};
-ghost use Rattle.oracle.specs.Asked.{shapeAtCall, pathAtCall, valueNumbers, placeNumbers};
-ghost use Rattle.oracle.specs.Promises.{givenOf, Replies, Says};
+ghost use Rattle.oracle.specs.Asked.{shapeAtCall, pathAtCall};
+ghost use Rattle.oracle.specs.Numbers.{valueNumbers, placeNumbers};
+ghost use Rattle.oracle.specs.Promises.{Says, RepliesTo};
 
 // The answer's number, and where it is 0 the value's bits.
 fn value_says(v: Value, next: Place, p: Player) -> Reply
@@ -66,7 +66,7 @@ fn place_says(v: evaluate::Place, next: Place, p: Player) -> Reply
 // Tag 6: a shape at x.
 pub fn shape_at_reply(run: &[u8], from: Place, p: Player) -> Reply
     requires { ⌜ Valid p ⌝ }
-    ensures { λ r. ⌜ Replies (now (run .entry)) (givenOf p (now (run .entry)) (onward from (shapeAtCall (now (run .entry))))) r ⌝ }
+    ensures { λ r. ⌜ RepliesTo shapeAtCall (now (run .entry)) from p r ⌝ }
 {
     let mut buffer = zeros();
     let s = runs::read_shape(run, from, &mut buffer);
@@ -85,7 +85,7 @@ pub fn shape_at_reply(run: &[u8], from: Place, p: Player) -> Reply
 // Tag 7: a path at t.
 pub fn path_at_reply(run: &[u8], from: Place, p: Player) -> Reply
     requires { ⌜ Valid p ⌝ }
-    ensures { λ r. ⌜ Replies (now (run .entry)) (givenOf p (now (run .entry)) (onward from (pathAtCall (now (run .entry))))) r ⌝ }
+    ensures { λ r. ⌜ RepliesTo pathAtCall (now (run .entry)) from p r ⌝ }
 {
     let mut buffer = zeros();
     let s = runs::read_path(run, from, &mut buffer);

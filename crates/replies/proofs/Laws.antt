@@ -78,13 +78,14 @@ pub record Putting (x : List ℕ) (at : ℕ) (all y : List ℕ) (place : ℕ) (r
 pub put-none : (x : List ℕ) (at : ℕ) (all : List ℕ) → Putting x at all x at all
 put-none x at all = record { bytes = refl; end = refl; long = refl }
 
-module _ {x : List ℕ} {at : ℕ} {all y : List ℕ} {place : ℕ} {rest : List ℕ} (p : Putting x at all y place rest) (room : at + length (bytesOf all) ≤ length x) where
+module _ {x : List ℕ} {at : ℕ} {all y : List ℕ} {place : ℕ} {rest : List ℕ} (p : Putting x at all y place rest)
+    (room : at + length (bytesOf all) ≤ length x) where
   pub put-room : {n : ℕ} {rest′ : List ℕ} → rest ≡ n ∷ rest′ → place + length (encoded n) ≤ length y
   unfolding bytesOf
   put-room {n} {rest′} e = omega (arith, p .end, p .long, ap (λ l. length (bytesOf l)) e, length-append (encoded n) (bytesOf rest′))
 
-  pub put-one : {n : ℕ} {rest′ : List ℕ} → rest ≡ n ∷ rest′ → {next : ℕ} {y′ : List ℕ} → (next ≡ place + length (encoded n)) × (y′ ≡ over y place (encoded n))
-      → Putting x at all y′ next rest′
+  pub put-one : {n : ℕ} {rest′ : List ℕ} → rest ≡ n ∷ rest′ → {next : ℕ} {y′ : List ℕ}
+      → (next ≡ place + length (encoded n)) × (y′ ≡ over y place (encoded n)) → Putting x at all y′ next rest′
   unfolding bytesOf
   put-one {n} {rest′} e put =
       let size : length (bytesOf rest) ≡ length (encoded n) + length (bytesOf rest′) = rw e (length-append (encoded n) (bytesOf rest′)) in
@@ -105,7 +106,8 @@ module _ {x : List ℕ} {at : ℕ} {all y : List ℕ} {place : ℕ} {rest : List
 
 -- ---- numbers, and then two lists of floats
 
-pub listed-length : (l : List ℕ) (x y : List Float) → length (bytesOf (listed l x y)) ≡ length (bytesOf l) + length (bytesOf (bitsOf x)) + length (bytesOf (bitsOf y))
+pub listed-length : (l : List ℕ) (x y : List Float)
+    → length (bytesOf (listed l x y)) ≡ length (bytesOf l) + length (bytesOf (bitsOf x)) + length (bytesOf (bitsOf y))
 unfolding listed
 listed-length l x y = simp (bytes-append, length-append)
 
@@ -128,10 +130,12 @@ module _ (o : List ℕ) (at : ℕ) (l : List ℕ) (x y : List Float) (room : at 
       unfolding listed
       put-lists w =
           let fit : at + length (bytesOf l) + length (bytesOf (bitsOf x)) ≤ length o = omega (arith, listed-length l x y) in
-          let both : length (bytesOf l ++ bytesOf (bitsOf x)) ≡ length (bytesOf l) + length (bytesOf (bitsOf x)) = length-append (bytesOf l) (bytesOf (bitsOf x)) in
+          let both : length (bytesOf l ++ bytesOf (bitsOf x)) ≡ length (bytesOf l) + length (bytesOf (bitsOf x)) =
+          length-append (bytesOf l) (bytesOf (bitsOf x)) in
           let fit′ : at + length (bytesOf l ++ bytesOf (bitsOf x)) + length (bytesOf (bitsOf y)) ≤ length o = omega (arith, listed-length l x y) in
           let place : m′ ≡ at + length (bytesOf l ++ bytesOf (bitsOf x)) = omega (arith, p .next, q .next) in
-          let written : o″ ≡ over o at (bytesOf l ++ bytesOf (bitsOf x)) = rw (q .bytes, p .next, p .bytes) (over-over o at (bytesOf l) (bytesOf (bitsOf x)) fit) in
+          let written : o″ ≡ over o at (bytesOf l ++ bytesOf (bitsOf x)) =
+          rw (q .bytes, p .next, p .bytes) (over-over o at (bytesOf l) (bytesOf (bitsOf x)) fit) in
           record {
             next = omega (arith, listed-length l x y, p .next, q .next, w .next);
             bytes = rw (w .bytes, place, written, over-over o at (bytesOf l ++ bytesOf (bitsOf x)) (bytesOf (bitsOf y)) fit′) (simp bytes-append);

@@ -16,7 +16,8 @@ calls-requires c κs =
 returns : tie.Need-returns
 returns c =
     let w = c .before .before .before .before .before .before .before .before in
-    runs-on (w .before .before .made .ensures) (w .write-reply .ensures _) (c .before .before .before .before .before .if1 .taken) (c .before .before .calls .ensures)
+    let made = w .before .before .made .ensures in
+    runs-on made (w .write-reply .ensures _) (c .before .before .before .before .before .if1 .taken) (c .before .before .calls .ensures)
 
 returns-2 : tie.Need-returns-2
 returns-2 c =

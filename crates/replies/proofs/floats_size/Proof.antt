@@ -1,5 +1,5 @@
 -- `floats_size` meets its contract: the bytes counted and those to come make all of them. Assumes nothing.
-use Prim.Native.Nat.{_+_, _*_, _-_, _≤_}
+use Prim.Native.Nat.{_-_, _≤_}
 use mathlib.Core.Path.{ap, _∙_}
 use native.Mathlib.Numerals.{add-one}
 use native.Mathlib.Omega.{arith}
@@ -22,15 +22,15 @@ loop-holds c = (omega arith, count-none _)
 
 add-sum : tie.Need-add-sum Inv-loop μ-loop
 add-sum c =
-    let small = count-small (c .before .before .before .before .loop .inv .1) (floats-at _ _ (c .before .before .before .loop-test .taken)) (c .size .ensures ∙ ap (λ n. length (encoded n)) (c .before .bits .ensures)) in
-    omega (arith, small, bits-length (c .before .before .before .before .before .before .args .s .now))
+    let t = c .before .before .before in
+    let size = c .size .ensures ∙ ap (λ n. length (encoded n)) (c .before .bits .ensures) in
+    omega (arith, count-small (t .before .loop .inv .1) (floats-at _ _ (t .loop-test .taken)) size, bits-length (t .before .before .before .args .s .now))
 
 loop-again : tie.Need-loop-again Inv-loop μ-loop
-loop-again c = (
-  omega arith,
-  rw add-one
-      (counted-one (c .before .before .before .before .loop .inv .1) (floats-at _ _ (c .before .before .before .loop-test .taken)) (c .size .ensures ∙ ap (λ n. length (encoded n)) (c .before .bits .ensures))),
-)
+loop-again c =
+    let t = c .before .before .before in
+    let size = c .size .ensures ∙ ap (λ n. length (encoded n)) (c .before .bits .ensures) in
+    (omega arith, rw add-one (counted-one (t .before .loop .inv .1) (floats-at _ _ (t .loop-test .taken)) size))
 
 returns : tie.Need-returns Inv-loop μ-loop
 returns c = counted (c .before .loop .inv .1) (ap bitsOf (none-left _ _ (c .loop-test .left) (c .before .loop .inv .0)))

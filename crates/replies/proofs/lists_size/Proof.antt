@@ -15,7 +15,8 @@ add-result c =
 add-result-2 : tie.Need-add-result-2
 add-result-2 c =
     let a = c .before .before .before .before .before .before .args in
-    omega (arith, bytes-length (now (a .s)), bytes-length (bitsOf (now (a .x))), bits-length (now (a .x)), bytes-length (bitsOf (now (a .y))), bits-length (now (a .y)))
+    let y = bytes-length (bitsOf (now (a .y))) in
+    omega (arith, bytes-length (now (a .s)), bytes-length (bitsOf (now (a .x))), bits-length (now (a .x)), y, bits-length (now (a .y)))
 
 returns : tie.Need-returns
 returns c =

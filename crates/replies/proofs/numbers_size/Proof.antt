@@ -1,11 +1,9 @@
 -- `numbers_size` meets its contract: the bytes counted and those to come make all of them. Assumes nothing.
-use Prim.Native.Nat.{_+_, _*_, _-_, _≤_}
-use mathlib.Core.Path.{ap, _∙_}
+use Prim.Native.Nat.{_-_, _≤_}
 use native.Mathlib.Numerals.{add-one}
 use native.Mathlib.Omega.{arith}
 use borrow.Author.Needs.{needs}
 use lib.ListN.{length, drop}
-use Rattle.number.specs.Encoded.{encoded}
 use Rattle.replies.proofs.Laws.{Counting, count-none, counted-one, count-small, counted, numbers-at, none-left}
 use Rattle.replies.proofs.numbers_size.Statement.{statement}
 use Rattle.replies.proofs.numbers_size.Tie as tie
@@ -21,18 +19,18 @@ loop-holds c = (omega arith, count-none _)
 
 add-sum : tie.Need-add-sum Inv-loop μ-loop
 add-sum c =
-    let small = count-small (c .before .before .before .loop .inv .1) (numbers-at _ _ (c .before .before .loop-test .taken)) (c .size .ensures) in
-    omega (arith, small)
+    let t = c .before .before in
+    let size = c .size .ensures in
+    omega (arith, count-small (t .before .loop .inv .1) (numbers-at _ _ (t .loop-test .taken)) size)
 
 loop-again : tie.Need-loop-again Inv-loop μ-loop
-loop-again c = (
-  omega arith,
-  rw add-one
-      (counted-one (c .before .before .before .loop .inv .1) (numbers-at _ _ (c .before .before .loop-test .taken)) (c .size .ensures)),
-)
+loop-again c =
+    let t = c .before .before in
+    let size = c .size .ensures in
+    (omega arith, rw add-one (counted-one (t .before .loop .inv .1) (numbers-at _ _ (t .loop-test .taken)) size))
 
 returns : tie.Need-returns Inv-loop μ-loop
-returns c = counted (c .before .loop .inv .1) ((none-left _ _ (c .loop-test .left) (c .before .loop .inv .0)))
+returns c = counted (c .before .loop .inv .1) (none-left _ _ (c .loop-test .left) (c .before .loop .inv .0))
 
 pub numbers-size-spec : {M : Type 1} → statement M
 numbers-size-spec =

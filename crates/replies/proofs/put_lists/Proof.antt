@@ -21,13 +21,16 @@ put-floats-requires-2 : tie.Need-put-floats-requires-2
 put-floats-requires-2 c κs =
     let s = c .before .before .before .before .before .before .before .before .before .before .before .before .before in
     let a = s .args in
-    room-third (now (a .out)) (a .at) (now (a .s)) (now (a .x)) (now (a .y)) (s .pre) (c .before .before .before .before .before .before .before .put-numbers .ensures) (c .before .before .before .put-floats .ensures)
+    room-third (now (a .out)) (a .at) (now (a .s)) (now (a .x)) (now (a .y)) (s .pre)
+    (c .before .before .before .before .before .before .before .put-numbers .ensures) (c .before .before .before .put-floats .ensures)
 
 returns : tie.Need-returns
 returns c =
-    let s = c .before .before .before .before .before .before .before .before .before .before .before .before .before .before .before .before in
+    let x = c .before .before .before .before .before .before in
+    let s = x .before .before .before .before .before .before .before .before .before .before in
     let a = s .args in
-    put-lists (now (a .out)) (a .at) (now (a .s)) (now (a .x)) (now (a .y)) (s .pre) (c .before .before .before .before .before .before .before .before .before .before .put-numbers .ensures) (c .before .before .before .before .before .before .put-floats .ensures) (c .before .before .put-floats2 .ensures)
+    put-lists (now (a .out)) (a .at) (now (a .s)) (now (a .x)) (now (a .y)) (s .pre)
+    (x .before .before .before .before .put-numbers .ensures) (x .put-floats .ensures) (c .before .before .put-floats2 .ensures)
 
 pub put-lists-spec : {M : Type 1} → statement M
 put-lists-spec = tie.close (tie.spec put-numbers-requires put-floats-requires put-floats-requires-2 (λ c. search needs) returns)

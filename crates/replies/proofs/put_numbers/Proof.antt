@@ -19,14 +19,16 @@ loop-holds : tie.Need-loop-holds Inv-loop μ-loop
 loop-holds c = (omega arith, put-none _ _ _)
 
 put-requires : tie.Need-put-requires Inv-loop μ-loop
-put-requires c κs = put-room (c .before .before .before .loop .inv .1) (c .before .before .before .before .before .before .pre) (numbers-at _ _ (c .before .before .loop-test .taken))
+put-requires c κs =
+    let l = c .before .before .before in
+    put-room (l .loop .inv .1) (l .before .before .before .pre) (numbers-at _ _ (c .before .before .loop-test .taken))
 
 loop-again : tie.Need-loop-again Inv-loop μ-loop
-loop-again c = (
-  omega arith,
-  rw add-one
-      (put-one (c .before .before .before .before .before .before .loop .inv .1) (c .before .before .before .before .before .before .before .before .before .pre) (numbers-at _ _ (c .before .before .before .before .before .loop-test .taken)) (c .before .before .put .ensures)),
-)
+loop-again c =
+    let t = c .before .before .before .before .before in
+    let l = t .before in
+    let put = c .before .before .put .ensures in
+    (omega arith, rw add-one (put-one (l .loop .inv .1) (l .before .before .before .pre) (numbers-at _ _ (t .loop-test .taken)) put))
 
 same-length : tie.Need-same-length Inv-loop μ-loop
 same-length c = c .before .loop .inv .1 .long

@@ -16,7 +16,8 @@ returns : tie.Need-returns
 returns c =
     let t = c .before .before .before .before .before in
     let a = t .before .before .before .before .before .before .args in
-    written (now (a .out)) (a .at) (listed (now (a .s)) (now (a .x)) (now (a .y))) (t .before .lists-size .ensures) (t .has-room .ensures) (c .before .before .before .before .if1 .taken) (c .before .before .put-lists .ensures)
+    written (now (a .out)) (a .at) (listed (now (a .s)) (now (a .x)) (now (a .y))) (t .before .lists-size .ensures) (t .has-room .ensures)
+    (c .before .before .before .before .if1 .taken) (c .before .before .put-lists .ensures)
 
 returns-2 : tie.Need-returns-2
 returns-2 c =

@@ -15,7 +15,8 @@ returns : tie.Need-returns
 returns c =
     let t = c .before .before .before .before .before in
     let a = t .before .before .before .before .args in
-    written (now (a .out)) (a .at) (now (a .s)) (t .before .numbers-size .ensures) (t .has-room .ensures) (c .before .before .before .before .if1 .taken) (c .before .before .put-numbers .ensures)
+    written (now (a .out)) (a .at) (now (a .s)) (t .before .numbers-size .ensures) (t .has-room .ensures)
+    (c .before .before .before .before .if1 .taken) (c .before .before .put-numbers .ensures)
 
 returns-2 : tie.Need-returns-2
 returns-2 c =

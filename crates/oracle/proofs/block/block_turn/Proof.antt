@@ -19,22 +19,50 @@ returns c =
     let y = c .before .before .before .before .before .before .before .before in
     let s = y .before .before .before .before .before .before .before in
     reads-turns (s .args .p)
-    (block-call (now (s .args .run)) (y .before .before .before .before .read-transport .ensures) (y .before .before .before .read-number .ensures) (y .before .before .read-restart .ensures) (y .before .read-below .ensures .0) (y .read-below2 .ensures .0))
+    (block-call
+    (now (s .args .run))
+    (y .before .before .before .before .read-transport .ensures)
+    (y .before .before .before .read-number .ensures)
+    (y .before .before .read-restart .ensures)
+    (y .before .read-below .ensures .0)
+    (y .read-below2 .ensures .0))
     (c .before .before .before .before .before .before .if1 .taken)
     (c .before .before .play-anew .ensures (now (s .args .run)))
 
 write-reply-requires : tie.Need-write-reply-requires
-write-reply-requires c κs = rw (c .malformed .ensures) (refl, omega arith, c .before .before .before .before .before .before .before .before .before .before .before .pre)
+write-reply-requires c κs =
+    let s = c .before .before .before .before .before .before .before .before .before .before .before in
+    rw (c .malformed .ensures) (refl, omega arith, s .pre)
 
 returns-2 : tie.Need-returns-2
 returns-2 c =
     let y = c .before .before .before .before .before .before .before in
     let s = y .before .before .before .before .before .before .before in
     let run = now (s .args .run) in
-    let ill = replies-ill run (s .args .p)
-    (block-call run (y .before .before .before .before .read-transport .ensures) (y .before .before .before .read-number .ensures) (y .before .before .read-restart .ensures) (y .before .read-below .ensures .0) (y .read-below2 .ensures .0))
-    (c .before .before .before .before .before .if1 .left) (s .pre) in
+    let r =
+    block-call
+    run
+    (y .before .before .before .before .read-transport .ensures)
+    (y .before .before .before .read-number .ensures)
+    (y .before .before .read-restart .ensures)
+    (y .before .read-below .ensures .0)
+    (y .read-below2 .ensures .0) in
+    let ill = replies-ill run (s .args .p) r (c .before .before .before .before .before .if1 .left) (s .pre) in
     same-turns (λ most. ill .given-is most) (rw (c .before .before .before .malformed .ensures) at (c .before .before .write-reply .ensures run))
 
 pub block-turn-spec : {M : Type 1} → statement M
-block-turn-spec = tie.close (tie.spec (λ c κs. search needs) (λ c κs. search needs) (λ c κs. search needs) (λ c κs. search needs) (λ c κs. search needs) play-anew-requires (λ c. search needs) returns (λ c κs. search needs) write-reply-requires (λ c. search needs) returns-2)
+block-turn-spec =
+    tie.close
+    (tie.spec
+    (λ c κs. search needs)
+    (λ c κs. search needs)
+    (λ c κs. search needs)
+    (λ c κs. search needs)
+    (λ c κs. search needs)
+    play-anew-requires
+    (λ c. search needs)
+    returns
+    (λ c κs. search needs)
+    write-reply-requires
+    (λ c. search needs)
+    returns-2)

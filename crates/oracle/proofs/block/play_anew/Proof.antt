@@ -25,7 +25,20 @@ returns : tie.Need-returns
 returns c =
     let f = c .before .before .before .before .before .before .before .before in
     let p = f .before .before .before .pre in
-    λ run. rw (← sevens-first 8192 (f .before .full .ensures) _ (p .1), ← sevens-first 8192 (f .full2 .ensures) _ (p .2)) (c .before .before .before .before .play .ensures run)
+    let x = sevens-first 8192 (f .before .full .ensures) _ (p .1) in
+    let y = sevens-first 8192 (f .full2 .ensures) _ (p .2) in
+    λ run. rw (← x, ← y) (c .before .before .before .before .play .ensures run)
 
 pub play-anew-spec : {M : Type 1} → statement M
-play-anew-spec = tie.close (tie.spec (λ c κs. search needs) (λ c κs. search needs) (λ c. search needs) slice-aggregate-play (λ c. search needs) slice-aggregate-play-2 play-requires (λ c. search needs) returns)
+play-anew-spec =
+    tie.close
+    (tie.spec
+    (λ c κs. search needs)
+    (λ c κs. search needs)
+    (λ c. search needs)
+    slice-aggregate-play
+    (λ c. search needs)
+    slice-aggregate-play-2
+    play-requires
+    (λ c. search needs)
+    returns)

@@ -2,7 +2,7 @@
 use mathlib.Core.Path.{refl}
 use borrow.Author.Needs.{needs}
 use denote.Ref.{now}
-use Rattle.oracle.specs.Asked.{callNumbers}
+use Rattle.oracle.specs.Numbers.{callNumbers}
 use Rattle.oracle.proofs.Readings.{bus-call}
 use Rattle.oracle.proofs.Replying.{replies-read, replies-ill, edit-answers}
 use Rattle.oracle.proofs.edits.bus_reply.Statement.{statement}
@@ -13,16 +13,26 @@ unfolding callNumbers
 returns c =
     let e = c .before .before .before .before in
     let a = e .before .before .before .before .before .args in
+    let r = bus-call (now (a .run)) (e .before .before .before .read-number .ensures) (e .before .before .read-f32 .ensures) in
     rw (c .reply .ensures)
-    (replies-read (now (a .run)) (a .p) (bus-call (now (a .run)) (e .before .before .before .read-number .ensures) (e .before .before .read-f32 .ensures)) (e .if1 .taken) _ refl
-    (edit-answers (c .before .before .before .set-bus .ensures) refl _))
+    (replies-read (now (a .run)) (a .p) r (e .if1 .taken) _ refl (edit-answers (c .before .before .before .set-bus .ensures) refl _))
 
 returns-2 : tie.Need-returns-2
 returns-2 c =
     let s = c .before .before .before .before .before .before in
     let a = s .args in
-    rw (c .malformed .ensures)
-    (replies-ill (now (a .run)) (a .p) (bus-call (now (a .run)) (c .before .before .before .before .read-number .ensures) (c .before .before .before .read-f32 .ensures)) (c .before .if1 .left) (s .pre))
+    let r = bus-call (now (a .run)) (c .before .before .before .before .read-number .ensures) (c .before .before .before .read-f32 .ensures) in
+    rw (c .malformed .ensures) (replies-ill (now (a .run)) (a .p) r (c .before .if1 .left) (s .pre))
 
 pub bus-reply-spec : {M : Type 1} → statement M
-bus-reply-spec = tie.close (tie.spec (λ c κs. search needs) (λ c κs. search needs) (λ c κs. search needs) (λ c. search needs) (λ c κs. search needs) returns (λ c κs. search needs) returns-2)
+bus-reply-spec =
+    tie.close
+    (tie.spec
+    (λ c κs. search needs)
+    (λ c κs. search needs)
+    (λ c κs. search needs)
+    (λ c. search needs)
+    (λ c κs. search needs)
+    returns
+    (λ c κs. search needs)
+    returns-2)

@@ -4,7 +4,7 @@ use native.Mathlib.Omega.{arith}
 use borrow.Author.Needs.{needs}
 use denote.Ref.{now}
 use lib.ListN.{length-take}
-use Rattle.oracle.specs.Asked.{callNumbers}
+use Rattle.oracle.specs.Numbers.{callNumbers}
 use Rattle.oracle.proofs.Readings.{path-call}
 use Rattle.oracle.proofs.Replying.{replies-read, replies-ill, edit-answers}
 use Rattle.oracle.proofs.edits.path_reply.Statement.{statement}
@@ -30,4 +30,17 @@ returns-2 c =
     (replies-ill (now (a .run)) (a .p) (path-call (now (a .run)) (c .before .before .before .before .read-path .ensures .0)) (c .before .if1 .left) (s .pre))
 
 pub path-reply-spec : {M : Type 1} → statement M
-path-reply-spec = tie.close (tie.spec (λ c κs. search needs) (λ c. search needs) (λ c κs. search needs) (λ c. search needs) slice-aggregate-set-path (λ c κs. search needs) (λ c. search needs) (λ c κs. search needs) returns (λ c κs. search needs) returns-2)
+path-reply-spec =
+    tie.close
+    (tie.spec
+    (λ c κs. search needs)
+    (λ c. search needs)
+    (λ c κs. search needs)
+    (λ c. search needs)
+    slice-aggregate-set-path
+    (λ c κs. search needs)
+    (λ c. search needs)
+    (λ c κs. search needs)
+    returns
+    (λ c κs. search needs)
+    returns-2)

@@ -2,7 +2,7 @@
 use mathlib.Core.Path.{refl}
 use borrow.Author.Needs.{needs}
 use denote.Ref.{now}
-use Rattle.oracle.specs.Asked.{callNumbers}
+use Rattle.oracle.specs.Numbers.{callNumbers}
 use Rattle.oracle.specs.Promises.{replyOf}
 use Rattle.oracle.proofs.Readings.{settings-call}
 use Rattle.oracle.proofs.Replying.{replies-read, replies-ill, edit-answers}
@@ -26,4 +26,13 @@ returns-2 c =
     (replies-ill (now (a .run)) (a .p) (settings-call (now (a .run)) (c .before .before .before .read-settings .ensures)) (c .before .if1 .left) (s .pre))
 
 pub settings-reply-spec : {M : Type 1} → statement M
-settings-reply-spec = tie.close (tie.spec (λ c κs. search needs) (λ c κs. search needs) (λ c. search needs) (λ c κs. search needs) returns (λ c κs. search needs) returns-2)
+settings-reply-spec =
+    tie.close
+    (tie.spec
+    (λ c κs. search needs)
+    (λ c κs. search needs)
+    (λ c. search needs)
+    (λ c κs. search needs)
+    returns
+    (λ c κs. search needs)
+    returns-2)

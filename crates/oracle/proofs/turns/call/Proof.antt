@@ -21,8 +21,9 @@ returns c =
     let s = n .before .before .before in
     let a = s .args in
     let run = now (a .run) in
-    let e = tag-then run (a .at) (n .read-number .ensures) ∙ ap (λ t. onward (n .read-number .result .next) (getD byTag t none run)) (c .before .before .before .before .if1 .taken) in
-    same-turns (λ most. ap (λ v. givenOf (a .p) run v most) e) (c .before .before .block-turn .ensures)
+    let e = tag-then run (a .at) (n .read-number .ensures) in
+    let e′ = ap (λ t. onward (n .read-number .result .next) (getD byTag t none run)) (c .before .before .before .before .if1 .taken) in
+    same-turns (λ most. ap (λ v. givenOf (a .p) run v most) (e ∙ e′)) (c .before .before .block-turn .ensures)
 
 reply-of-requires : tie.Need-reply-of-requires
 reply-of-requires c κs = (c .before .before .before .before .before .before .before .pre, c .before .if1 .left)
@@ -37,7 +38,18 @@ returns-2 c =
     let a = s .args in
     let run = now (a .run) in
     let e = tag-then run (a .at) (n .read-number .ensures) in
-    same-turns (λ most. ap (λ v. givenOf (a .p) run v most) e ∙ c .before .before .before .reply-of .ensures .given-is most) (c .before .before .write-reply .ensures run)
+    let given-is = c .before .before .before .reply-of .ensures .given-is in
+    same-turns (λ most. ap (λ v. givenOf (a .p) run v most) e ∙ given-is most) (c .before .before .write-reply .ensures run)
 
 pub call-spec : {M : Type 1} → statement M
-call-spec = tie.close (tie.spec (λ c κs. search needs) block-turn-requires (λ c. search needs) returns reply-of-requires write-reply-requires (λ c. search needs) returns-2)
+call-spec =
+    tie.close
+    (tie.spec
+    (λ c κs. search needs)
+    block-turn-requires
+    (λ c. search needs)
+    returns
+    reply-of-requires
+    write-reply-requires
+    (λ c. search needs)
+    returns-2)

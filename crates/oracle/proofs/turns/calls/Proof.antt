@@ -34,7 +34,8 @@ returns-2 c =
 loop-again : tie.Need-loop-again Inv-loop μ-loop
 loop-again c =
     let l = c .before .before .before .before .before .before .before in
-    (omega arith, goes-on (rw (one-less _ _ (l .loop-test .taken)) at (l .before .loop .inv .1)) (omega arith) (c .before .before .before .before .call .ensures) (c .before .if2 .taken))
+    let inv = rw (one-less _ _ (l .loop-test .taken)) at (l .before .loop .inv .1) in
+    (omega arith, goes-on inv (omega arith) (c .before .before .before .before .call .ensures) (c .before .if2 .taken))
 
 returns-3 : tie.Need-returns-3 Inv-loop μ-loop
 returns-3 c = goes-end (c .before .loop .inv .1) (omega arith)

@@ -1,10 +1,10 @@
 -- `shape_at_reply` meets its contract. Assumes nothing.
-use mathlib.Core.Path.{refl, ap}
+use mathlib.Core.Path.{refl}
 use native.Mathlib.Omega.{arith}
 use borrow.Author.Needs.{needs}
 use denote.Ref.{now}
 use lib.ListN.{length-take}
-use Rattle.oracle.specs.Asked.{valueNumbers, numbers, stateAfter}
+use Rattle.oracle.specs.Numbers.{valueNumbers, numbers, stateAfter}
 use Rattle.oracle.proofs.Readings.{shape-at-call}
 use Rattle.oracle.proofs.Replying.{replies-read, replies-ill, says-answers}
 use Rattle.oracle.proofs.values.shape_at_reply.Statement.{statement}
@@ -20,15 +20,28 @@ returns c =
     let s = e .before .before .before .before .before .before .before .before in
     let a = s .args in
     let said = rw (c .before .evaluate-shape .ensures) at (c .value-says .ensures) in
-    replies-read (now (a .run)) (a .p) (shape-at-call (now (a .run)) (e .before .before .before .before .read-shape .ensures .0) (e .before .before .read-f32 .ensures)) (e .if1 .taken) _ (said .next-is)
-    (says-answers said refl refl (s .pre))
+    let r = shape-at-call (now (a .run)) (e .before .before .before .before .read-shape .ensures .0) (e .before .before .read-f32 .ensures) in
+    replies-read (now (a .run)) (a .p) r (e .if1 .taken) _ (said .next-is) (says-answers said refl refl (s .pre))
 
 returns-2 : tie.Need-returns-2
 returns-2 c =
     let s = c .before .before .before .before .before .before .before .before .before in
     let a = s .args in
-    rw (c .malformed .ensures)
-    (replies-ill (now (a .run)) (a .p) (shape-at-call (now (a .run)) (c .before .before .before .before .before .read-shape .ensures .0) (c .before .before .before .read-f32 .ensures)) (c .before .if1 .left) (s .pre))
+    let r = shape-at-call (now (a .run)) (c .before .before .before .before .before .read-shape .ensures .0) (c .before .before .before .read-f32 .ensures) in
+    rw (c .malformed .ensures) (replies-ill (now (a .run)) (a .p) r (c .before .if1 .left) (s .pre))
 
 pub shape-at-reply-spec : {M : Type 1} → statement M
-shape-at-reply-spec = tie.close (tie.spec (λ c κs. search needs) (λ c. search needs) (λ c κs. search needs) (λ c κs. search needs) (λ c. search needs) slice-aggregate-evaluate-shape (λ c κs. search needs) (λ c κs. search needs) returns (λ c κs. search needs) returns-2)
+shape-at-reply-spec =
+    tie.close
+    (tie.spec
+    (λ c κs. search needs)
+    (λ c. search needs)
+    (λ c κs. search needs)
+    (λ c κs. search needs)
+    (λ c. search needs)
+    slice-aggregate-evaluate-shape
+    (λ c κs. search needs)
+    (λ c κs. search needs)
+    returns
+    (λ c κs. search needs)
+    returns-2)

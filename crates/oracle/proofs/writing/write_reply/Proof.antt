@@ -21,7 +21,16 @@ returns c =
     let s = c .before .before .before .before .before .before .before .before .before .before in
     let a = s .args in
     λ run. rw (c .turn-of .ensures)
-    (turned run (now (a .out)) (a .place) (take (a .r .count) (a .r .numbers)) (a .r .next) (a .r .player) (s .pre .2) (c .before .before .before .write-numbers .ensures))
+    (turned run (now (a .out)) (a .place) (take (a .r .count) (a .r .numbers)) (a .r .next) (a .r .player) (s .pre .2)
+    (c .before .before .before .write-numbers .ensures))
 
 pub write-reply-spec : {M : Type 1} → statement M
-write-reply-spec = tie.close (tie.spec array-share-prefix-numbers slice-aggregate-write-numbers write-numbers-requires (λ c κs. search needs) (λ c. search needs) returns)
+write-reply-spec =
+    tie.close
+    (tie.spec
+    array-share-prefix-numbers
+    slice-aggregate-write-numbers
+    write-numbers-requires
+    (λ c κs. search needs)
+    (λ c. search needs)
+    returns)
