@@ -13,16 +13,16 @@ use Rattle.settings.specs.Codes.{transportAt}
 use Rattle.clock.specs.declared.free.Clock.{Clock}
 use Rattle.bank.specs.declared.parts.Pending.{Pending}
 use Rattle.slot.specs.declared.Lfo.{Lfo}
-use Rattle.slot.specs.declared.Processed.{Processed}
-use Rattle.slot.specs.Slot.{clockedLfo, Ready, Processes}
+use Rattle.slot.specs.Slot.{clockedLfo, Ready}
 use Rattle.questions.specs.declared.RestartCodes.{RestartCodes}
 use Rattle.questions.specs.Questions.{firstNo, blockQuestions}
 use Rattle.questions.proofs.Facts.{BlockAccepted, block-accepted, transport-in}
 use Rattle.calls.specs.Blocks.{pendingOf, playedState, values, finished}
 use Rattle.calls.specs.Calls.{Call, block, questions, answer, accepts, accepted, played, buffer}
 use Rattle.player.specs.declared.Player.{Player}
+use Rattle.player.specs.declared.Played.{Played}
 use Rattle.player.specs.Player.{stateOf, LfoIn, Valid}
-use Rattle.player.specs.Promises.{finishedBy, Plays}
+use Rattle.player.specs.Promises.{finishedBy, Renders, Plays}
 use Rattle.player.proofs.Answers.{accepts-it, refuses-it, step-accepted, step-refused}
 
 -- with the clock after a block
@@ -86,20 +86,22 @@ module _ (p : Player) (v : Valid p) (c : TransportCodes) (frames : ℕ) (restart
             room-y = facts .room-y;
           }
 
-      pub block-played : (at : Pending) (r : Processed) (x′ y′ : List Float) → at ≡ pendingOf restart → Processes (p .slot) t at frames x y r x′ y′
-          → Plays p c frames restart x y (record { answer = a; finished = r .finished; player = record { slot = r .slot; played = p .played + frames } }) x′ y′
-      block-played at r x′ y′ pending done =
+      pub block-played : (at : Pending) (r : Played) (x′ y′ : List Float) → at ≡ pendingOf restart → Renders p (p .played + frames) t at frames x y r x′ y′
+          → Plays p c frames restart x y r x′ y′
+      block-played at r x′ y′ pending renders =
+          let done = renders .processes in
+          let frames-are = renders .played-is in
           record {
-            answer-is = put;
-            state-is = rw (step-accepted (stateOf p) call a put e) (unfold accepted playedState in rw (known, ← pending, done .lfo-is, done .voice-is));
+            answer-is = renders .answer-is ∙ sym e ∙ put;
+            state-is = rw (step-accepted (stateOf p) call a put e) (unfold accepted playedState in rw (known, ← pending, done .lfo-is, done .voice-is, frames-are));
             kept = λ (h : accepts (stateOf p) call ≡ false). absurd (false≢true (sym h ∙ yes));
             finished-is = unfold finishedBy finished in rw (yes, known, ← pending) (done .finished-is);
             x-is = unfold buffer played values in rw (yes, known, ← pending) (done .x-is);
             y-is = unfold buffer played values in rw (yes, known, ← pending) (done .y-is);
             valid =
                 record {
-                  within = facts .within-life;
-                  slot-in = done .slot-in (p .played) (v .slot-in) (facts .within-life);
+                  within = rw frames-are (facts .within-life);
+                  slot-in = rw frames-are (done .slot-in (p .played) (v .slot-in) (facts .within-life));
                   lfo-in = subst LfoIn (sym (done .lfo-is)) (clocked-in (p .slot .lfo) _ (v .lfo-in));
                 };
           }

@@ -7,9 +7,12 @@ use lib.Dec.{eqb}
 use lib.Ieee.{Float}
 use Rattle.settings.specs.declared.record.Settings.{Settings}
 use Rattle.settings.specs.declared.record.SettingsCodes.{SettingsCodes}
+use Rattle.settings.specs.declared.record.Transport.{Transport}
 use Rattle.settings.specs.declared.record.TransportCodes.{TransportCodes}
 use Rattle.settings.specs.Codes.{settingsAt, transportAt}
 use Rattle.settings.specs.Records.{defaultSettings}
+use Rattle.bank.specs.declared.parts.Pending.{Pending}
+use Rattle.slot.specs.Slot.{Processes}
 use Rattle.questions.specs.declared.RestartCodes.{RestartCodes}
 use Rattle.questions.specs.Questions.{firstNo, settingsQuestions}
 use Rattle.calls.specs.State.{State}
@@ -45,6 +48,12 @@ pub record Changes (p : Player) (c : Call) (r : Changed) : Type 0 where
   pub valid : Valid (r .player)
 
 -- ---- playing a block
+
+-- of a block that is played: the slot after it, `played` frames in all, and both buffers
+pub record Renders (p : Player) (played : ℕ) (t : Transport) (at : Pending) (frames : ℕ) (x y : List Float) (r : Played) (x′ y′ : List Float) : Type 0 where
+  pub answer-is : r .answer ≡ 0
+  pub played-is : r .player .played ≡ played
+  pub processes : Processes (p .slot) t at frames x y (r .player .slot) (r .finished) x′ y′
 
 -- a block that is refused says 0
 unfoldable pub finishedBy : State → TransportCodes → ℕ → RestartCodes → List Float → List Float → Bool

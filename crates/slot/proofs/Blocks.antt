@@ -145,7 +145,7 @@ module _ (slot : Slot) (t : Transport) (frames : ℕ) (x y : List Float) (h : Re
     played-by : Plays s (slotCurve (s .kind) (slot .lfo)) block (slot .voice) at frames x y r x′ y′
     played-by = rw (lent-is z n from f, e) at plays
 
-    from-readied : Processes slot t at frames x y (record { slot = after; finished = done }) x′ y′
+    from-readied : Processes slot t at frames x y after done x′ y′
     from-readied =
         record {
           lfo-is = ap (λ (z : Prepared). clockedLfo (slot .lfo) (z .clock)) e;
@@ -181,5 +181,5 @@ module _ (slot : Slot) (t : Transport) (frames : ℕ) (x y : List Float) (h : Re
                 subst (λ (n : LfoType). CacheFor n (slot .lfo .shape) (slot .lfo .path) (slot .lfo .buses) (after .cache)) k
                 (record { lists-are = cache-is .lists-are; kept-for = played-by .kept-is })
 
-    pub block-gives : Processes slot t at frames x y (record { slot = ended z; finished = done }) x′ y′
-    block-gives = subst (λ (w : Slot). Processes slot t at frames x y (record { slot = ended w; finished = done }) x′ y′) (sym (f .slot-is)) from-readied
+    pub block-gives : Processes slot t at frames x y (ended z) done x′ y′
+    block-gives = subst (λ (w : Slot). Processes slot t at frames x y (ended w) done x′ y′) (sym (f .slot-is)) from-readied

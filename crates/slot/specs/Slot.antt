@@ -1,7 +1,7 @@
 -- A slot: as it is made, what holds of it, and a block of it. Assumes nothing.
 use Prim.Native.Nat.{ℕ, _+_, _^_, _≤_}
 use mathlib.Core.Path.{_≡_}
-use mathlib.Core.Bool.{true}
+use mathlib.Core.Bool.{Bool, true}
 use mathlib.Core.List.{List, _++_}
 use lib.ListN.{length, drop, replicate}
 use lib.Ieee.{Float}
@@ -26,7 +26,6 @@ use Rattle.bank.specs.declared.parts.Pending.{Pending}
 use Rattle.bank.specs.Parts.{partsVoice, partsOuts, partsCount, finishedOf}
 use Rattle.slot.specs.declared.Lfo.{Lfo}
 use Rattle.slot.specs.declared.Slot.{Slot}
-use Rattle.slot.specs.declared.Processed.{Processed}
 use Rattle.slot.specs.Moved.{LoopbackIn, curveOf}
 use Rattle.slot.specs.Cached.{newCache, CacheFor}
 
@@ -97,10 +96,10 @@ pub record Ready (slot : Slot) (t : Transport) (frames : ℕ) (x y : List Float)
   pub room-y : frames ≤ length y
 
 -- Of the cache after it, only what `SlotIn` says of it is promised.
-pub record Processes (slot : Slot) (t : Transport) (at : Pending) (frames : ℕ) (x y : List Float) (r : Processed) (x′ y′ : List Float) : Type 0 where
-  pub lfo-is : r .slot .lfo ≡ clockedLfo (slot .lfo) (slotPrepared slot t frames .clock)
-  pub voice-is : r .slot .voice ≡ slotVoice slot t at frames
-  pub finished-is : r .finished ≡ finishedOf (slot .lfo .settings .mode) (slotCount slot t at frames)
+pub record Processes (slot : Slot) (t : Transport) (at : Pending) (frames : ℕ) (x y : List Float) (after : Slot) (done : Bool) (x′ y′ : List Float) : Type 0 where
+  pub lfo-is : after .lfo ≡ clockedLfo (slot .lfo) (slotPrepared slot t frames .clock)
+  pub voice-is : after .voice ≡ slotVoice slot t at frames
+  pub finished-is : done ≡ finishedOf (slot .lfo .settings .mode) (slotCount slot t at frames)
   pub x-is : x′ ≡ slotOuts slot t at frames (λ f. f .x) ++ drop frames x
   pub y-is : y′ ≡ slotOuts slot t at frames (λ f. f .y) ++ drop frames y
-  pub slot-in : (played : ℕ) → SlotIn played slot → played + frames ≤ 2 ^ 40 → SlotIn (played + frames) (r .slot)
+  pub slot-in : (played : ℕ) → SlotIn played slot → played + frames ≤ 2 ^ 40 → SlotIn (played + frames) after

@@ -1,4 +1,5 @@
-// The port of lfo/mod.rs, `Lfo` with its `new`, and of lfo/bank.rs, `LfoBank::process_scalar`: an LFO slot with one voice, and a block of it.
+// The port of lfo/mod.rs, `Lfo` with its `new`: an LFO slot with one voice, and what a block of it is made of. Crate player plays the block, in
+// one function, since a slot that is handed on is copied.
 //
 // What a slot plays depends on its `lfo` and its `voice` alone. The `cache` keeps what frames read, the points as moved by the buses, and the
 // segments last found, from one block to the next: `SlotIn` of specs/Slot.antt says when they belong to the rest.
@@ -7,12 +8,14 @@ mod moved;
 mod playing;
 
 pub use cache::Cache;
+pub use cache::is_current;
+pub use cache::refreshed;
 use clock::Clock;
 pub use moved::Lists;
 pub use moved::loop_point;
+pub use moved::point_count;
 use path::Path;
 pub use playing::finished;
-pub use playing::process;
 use points::POINT_BUSES;
 use settings::Settings;
 use shape::Shape;
@@ -32,12 +35,6 @@ pub struct Slot {
     pub lfo: Lfo,
     pub voice: Voice,
     pub cache: Cache,
-}
-
-// The slot after a block, and whether a One-shot has reached its end in it.
-pub struct Processed {
-    pub slot: Slot,
-    pub finished: bool,
 }
 
 impl Slot {

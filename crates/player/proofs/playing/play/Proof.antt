@@ -28,9 +28,9 @@ add-played c =
     let accepted = facts (a .p) (s .pre) (a .t) (a .frames) (a .restart) (a .x .now) (a .y .now) _ (q .block-answer .ensures) (i .if1 .left) in
     record { fits = omega (arith, accepted .within-life) }
 
-process-requires : tie.Need-process-requires
-process-requires c κs =
-    let w = c .before .before .before .before in
+render-requires : tie.Need-render-requires
+render-requires c κs =
+    let w = c .before .before .before in
     let k = w .before .before in
     let f = k .before .before in
     let q = f .before .before in
@@ -42,15 +42,15 @@ process-requires c κs =
 
 returns-3 : tie.Need-returns-3
 returns-3 c =
-    let r = c .before .before .before .before .before in
+    let r = c .before .before .before .before in
     let a = r .before .before .before in
-    let w = a .before .before in
+    let w = a .before in
     let k = w .before .before in
     let f = k .before .before in
     let q = f .before .before in
     let s = q .before .before .before in
     let known = sym (f .from-codes .ensures) ∙ k .transport .given .1 in
-    block-played _ (s .pre) _ _ _ _ _ _ (q .block-answer .ensures) (f .before .if1 .left) _ known _ _ _ _ (a .pending .ensures) (r .process .ensures)
+    block-played _ (s .pre) _ _ _ _ _ _ (q .block-answer .ensures) (f .before .if1 .left) _ known _ _ _ _ (a .pending .ensures) (r .render .ensures)
 
 pub play-spec : {M : Type 1} → statement M
 play-spec =
@@ -64,7 +64,7 @@ play-spec =
     returns-2
     add-played
     (λ c κs. search needs)
-    process-requires
+    render-requires
     (λ c. search needs)
     (λ c. search needs)
     returns-3)

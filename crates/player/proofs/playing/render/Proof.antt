@@ -1,21 +1,21 @@
--- `process` meets its contract. Assumes nothing.
+-- `render` meets its contract. Assumes nothing.
 use borrow.Author.Needs.{needs}
-use mathlib.Core.Path.{_≡_, _∙_}
+use mathlib.Core.Path.{_≡_, refl, _∙_}
 use mathlib.Core.Logic.{⊎-elim}
 use Rattle.slot.proofs.Blocks.{count-small, loopback-small, block-stretch, block-gives, readied, left-as-it-is, made-anew}
-use Rattle.slot.proofs.playing.process.Statement.{statement}
-use Rattle.slot.proofs.playing.process.Tie as tie
+use Rattle.player.proofs.playing.render.Statement.{statement}
+use Rattle.player.proofs.playing.render.Tie as tie
 
 prepare-requires : tie.Need-prepare-requires
-prepare-requires c κs = count-small _ _ _ _ _ (c .before .before .before .before .before .pre)
+prepare-requires c κs = count-small _ _ _ _ _ (c .before .before .before .before .before .before .pre)
 
 refreshed-requires : tie.Need-refreshed-requires
 refreshed-requires c κs =
-    let s = c .before .before .before .before .before .before .before .before .before .before .before .before .before in
+    let s = c .before .before .before .before .before .before .before .before .before .before .before .before .before .before in
     (s .pre .slot-in .shape-short, s .pre .slot-in .path-short)
 
 -- the slot where the two ways of the test meet
-joined : (j : tie.Joined1) → j .if1 .slot ≡ readied (j .before .before .before .before .before .before .before .before .before .args .t1)
+joined : (j : tie.Joined1) → j .if1 .slot ≡ readied (j .before .before .before .before .before .before .before .before .before .before .args .p .slot)
 joined j =
     let i = j .before .is-current .ensures in
     ⊎-elim (λ w. w .6 ∙ made-anew _ _ i (w .0 .taken) _ (w .5 .ensures)) (λ w. w .1 ∙ left-as-it-is _ _ i (w .0 .left)) (j .if1 .came)
@@ -23,7 +23,7 @@ joined j =
 loop-point-requires : tie.Need-loop-point-requires
 loop-point-requires c κs =
     let j = c .before .before .before .before in
-    let s = j .before .before .before .before .before .before .before .before .before in
+    let s = j .before .before .before .before .before .before .before .before .before .before in
     loopback-small _ _ _ _ _ (s .pre) _ (joined j)
 
 render-parts-requires : tie.Need-render-parts-requires
@@ -32,7 +32,7 @@ render-parts-requires c κs =
     let n = l .before .before .before in
     let j = n .before .before in
     let p = j .before .before .before in
-    let s = p .before .before .before .before .before .before in
+    let s = p .before .before .before .before .before .before .before in
     block-stretch _ _ _ _ _ (s .pre) _ _ _ _ (p .prepare .ensures) (record { slot-is = joined j; points-are = n .point-count .ensures; from-is = l .loop-point .ensures })
 
 -- field by field, so that a refusal names the fact
@@ -43,23 +43,28 @@ returns c =
     let n = l .before .before .before in
     let j = n .before .before in
     let p = j .before .before .before in
-    let s = p .before .before .before .before .before .before in
+    let s = p .before .before .before .before .before .before .before in
     let g =
     block-gives _ _ _ _ _ (s .pre) _ _ _ _ _ _ _ _ _ (p .prepare .ensures)
     (record { slot-is = joined j; points-are = n .point-count .ensures; from-is = l .loop-point .ensures })
     (r .render-parts .ensures)
     (c .finished .ensures) in
     record {
-      lfo-is = g .lfo-is;
-      voice-is = g .voice-is;
-      finished-is = g .finished-is;
-      x-is = g .x-is;
-      y-is = g .y-is;
-      slot-in = g .slot-in;
+      answer-is = refl;
+      played-is = refl;
+      processes =
+          record {
+            lfo-is = g .lfo-is;
+            voice-is = g .voice-is;
+            finished-is = g .finished-is;
+            x-is = g .x-is;
+            y-is = g .y-is;
+            slot-in = g .slot-in;
+          };
     }
 
-pub process-spec : {M : Type 1} → statement M
-process-spec =
+pub render-spec : {M : Type 1} → statement M
+render-spec =
     tie.close
     (tie.spec
     prepare-requires
