@@ -216,18 +216,3 @@ pub fn play(bytes: &[u8], smooths: &[f32], figures: &mut Figures) -> Played {
     figures.endings[0] += 1;
     played
 }
-
-/// Plays a run as it is, by no bytes: what the reading is held to.
-pub fn play_run(run: &Run, smooths: &[f32], figures: &mut Figures) -> Played {
-    let smooth = |i: usize| smooths.get(i).copied().unwrap_or(0.0);
-    let mut playing = match make((&run.settings, run.seed), smooth(0), figures) {
-        Ok(playing) => playing,
-        Err(played) => return played,
-    };
-    for (i, call) in run.calls.iter().enumerate() {
-        playing.call(call, smooth(i + 1));
-    }
-    let (played, figures) = ended(playing);
-    figures.endings[0] += 1;
-    played
-}
