@@ -5,7 +5,7 @@ use crate::lfo::{Lfo, Mode};
 use crate::player::{Player, path_of, shape_of, transport_of};
 use crate::questions;
 use crate::reading::Reader;
-use crate::run::{Block, Call, Path, Run, Settings, Shape, put_number};
+use crate::run::{Block, Call, Path, Settings, Shape, put_number};
 use crate::tally::bits32;
 
 const MALFORMED: u64 = 255;
