@@ -16,13 +16,17 @@ use Rattle.runs.specs.Records.{settings, transport, restart}
 use Rattle.runs.specs.Curves.{ShapeCodes, PathCodes, shape, path}
 use Rattle.runs.proofs.Laws.{chain, last}
 use Rattle.oracle.specs.Asked.{Asked, call, shapeAt, pathAt, sevens, none, byTag, asked}
-use Rattle.oracle.specs.Asked.{settingsCall, shapeCall, pathCall, busCall, blockCall, shapeAtCall, pathAtCall}
+use Rattle.oracle.specs.Asked.{settingsCall, shapeCall, pathCall, busCall, phaseCall, blockCall, shapeAtCall, pathAtCall}
 use Rattle.oracle.specs.Output.{make}
 
 module _ (run : List ℕ) {from a : Place} where
   pub settings-call : {c : SettingsCodes} → Reads (settings run) from c a → Reads (settingsCall run) from (call (Calls.settings c)) a
   unfolding settingsCall
   settings-call r = chain _ r last
+
+  pub phase-call : {t : TransportCodes} → Reads (transport run) from t a → Reads (phaseCall run) from (call (Calls.phase t)) a
+  unfolding phaseCall
+  phase-call r = chain _ r last
 
   pub shape-call : {s : ShapeCodes} → Reads (shape run) from s a
       → Reads (shapeCall run) from (call (Calls.shape (s .points) (s .count) (s .loopback) (s .strengths))) a
@@ -59,18 +63,18 @@ unfolding blockCall
 block-call run r₁ r₂ r₃ r₄ r₅ = chain _ r₁ (chain _ r₂ (chain _ r₃ (chain _ r₄ (chain _ r₅ last))))
 
 -- a tag of no call
-pub other-tag : (tag : ℕ) → (tag ≡ 0 → ⊥) → (tag ≡ 1 → ⊥) → (tag ≡ 2 → ⊥) → (tag ≡ 3 → ⊥) → (tag ≡ 5 → ⊥) → (tag ≡ 6 → ⊥) → (tag ≡ 7 → ⊥)
+pub other-tag : (tag : ℕ) → (tag ≡ 0 → ⊥) → (tag ≡ 1 → ⊥) → (tag ≡ 2 → ⊥) → (tag ≡ 3 → ⊥) → (tag ≡ 4 → ⊥) → (tag ≡ 5 → ⊥) → (tag ≡ 6 → ⊥) → (tag ≡ 7 → ⊥)
     → getD byTag tag none ≡ none
 unfolding byTag
-other-tag zero n₀ n₁ n₂ n₃ n₅ n₆ n₇ = absurd (n₀ refl)
-other-tag (suc zero) n₀ n₁ n₂ n₃ n₅ n₆ n₇ = absurd (n₁ refl)
-other-tag (suc (suc zero)) n₀ n₁ n₂ n₃ n₅ n₆ n₇ = absurd (n₂ refl)
-other-tag (suc (suc (suc zero))) n₀ n₁ n₂ n₃ n₅ n₆ n₇ = absurd (n₃ refl)
-other-tag (suc (suc (suc (suc zero)))) n₀ n₁ n₂ n₃ n₅ n₆ n₇ = refl
-other-tag (suc (suc (suc (suc (suc zero))))) n₀ n₁ n₂ n₃ n₅ n₆ n₇ = absurd (n₅ refl)
-other-tag (suc (suc (suc (suc (suc (suc zero)))))) n₀ n₁ n₂ n₃ n₅ n₆ n₇ = absurd (n₆ refl)
-other-tag (suc (suc (suc (suc (suc (suc (suc zero))))))) n₀ n₁ n₂ n₃ n₅ n₆ n₇ = absurd (n₇ refl)
-other-tag (suc (suc (suc (suc (suc (suc (suc (suc n)))))))) n₀ n₁ n₂ n₃ n₅ n₆ n₇ = refl
+other-tag zero n₀ n₁ n₂ n₃ n₄ n₅ n₆ n₇ = absurd (n₀ refl)
+other-tag (suc zero) n₀ n₁ n₂ n₃ n₄ n₅ n₆ n₇ = absurd (n₁ refl)
+other-tag (suc (suc zero)) n₀ n₁ n₂ n₃ n₄ n₅ n₆ n₇ = absurd (n₂ refl)
+other-tag (suc (suc (suc zero))) n₀ n₁ n₂ n₃ n₄ n₅ n₆ n₇ = absurd (n₃ refl)
+other-tag (suc (suc (suc (suc zero)))) n₀ n₁ n₂ n₃ n₄ n₅ n₆ n₇ = absurd (n₄ refl)
+other-tag (suc (suc (suc (suc (suc zero))))) n₀ n₁ n₂ n₃ n₄ n₅ n₆ n₇ = absurd (n₅ refl)
+other-tag (suc (suc (suc (suc (suc (suc zero)))))) n₀ n₁ n₂ n₃ n₄ n₅ n₆ n₇ = absurd (n₆ refl)
+other-tag (suc (suc (suc (suc (suc (suc (suc zero))))))) n₀ n₁ n₂ n₃ n₄ n₅ n₆ n₇ = absurd (n₇ refl)
+other-tag (suc (suc (suc (suc (suc (suc (suc (suc n)))))))) n₀ n₁ n₂ n₃ n₄ n₅ n₆ n₇ = refl
 
 -- a tag, and then its call
 pub tag-then : (run : List ℕ) (at : ℕ) {tag : ℕ} {from : Place} → Reads (number run) (record { at = at; good = true }) tag from

@@ -44,6 +44,10 @@ pathCall = path then λ s. done (call (Calls.path (s .points) (s .count) (s .clo
 unfoldable pub busCall : Parser Asked
 busCall = number then λ k. f32 then λ value. done (call (Calls.bus k value))
 
+-- tag 4
+unfoldable pub phaseCall : Parser Asked
+phaseCall = transport then λ t. done (call (Calls.phase t))
+
 abbrev pub blockOf : TransportCodes → ℕ → RestartCodes → List Float → List Float → Asked
 blockOf t frames at x y = call (Calls.block t frames at x y)
 
@@ -71,7 +75,7 @@ none run at = malformed
 
 -- each at its tag
 unfoldable pub byTag : List (Parser Asked)
-byTag = settingsCall ∷ shapeCall ∷ pathCall ∷ busCall ∷ none ∷ blockCall ∷ shapeAtCall ∷ pathAtCall ∷ []
+byTag = settingsCall ∷ shapeCall ∷ pathCall ∷ busCall ∷ phaseCall ∷ blockCall ∷ shapeAtCall ∷ pathAtCall ∷ []
 
 unfoldable pub asked : Parser Asked
 asked = number then λ tag. getD byTag tag none

@@ -5,12 +5,15 @@ use mathlib.Core.Bool.{true, false, cond}
 use mathlib.Core.List.{List, [], _∷_, _++_}
 use lib.Dec.{eqb}
 use lib.ListN.{length, take}
+use lib.Ieee.{binary32, toBits}
 use Rattle.listlaws.specs.Over.{over}
 use Rattle.number.specs.declared.Writing.{Writing}
 use Rattle.number.specs.declared.Writing.the-variants.{Next, NoRoom}
 use Rattle.runs.specs.declared.fields.Place.{Place}
 use Rattle.runs.specs.Parser.{Parsed, read, Parser, onward}
 use Rattle.player.specs.declared.Player.{Player}
+use Rattle.player.specs.declared.Reading.{Reading}
+use Rattle.player.specs.declared.Reading.the-variants as Reading
 use Rattle.player.specs.Player.{stateOf, Valid}
 use Rattle.oracle.specs.declared.Reply.{Reply}
 use Rattle.oracle.specs.declared.Turn.{Turn}
@@ -28,6 +31,10 @@ howMany n = cond (eqb n 0) 2 1
 -- one number, and where the run goes on
 abbrev pub replyOf : ℕ → Place → Player → Reply
 replyOf n at p = record { numbers = n ∷ 0 ∷ 0 ∷ []; count = 1; next = at; player = p }
+
+abbrev pub readingNumbers : Reading → List ℕ
+readingNumbers (Reading.Refused n) = n ∷ []
+readingNumbers (Reading.At v) = 0 ∷ toBits binary32 v ∷ []
 
 -- the numbers l, of a call that leaves the player p as it is
 pub record Says (l : List ℕ) (at : Place) (p : Player) (r : Reply) : Type 0 where

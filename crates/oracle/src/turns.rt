@@ -7,6 +7,7 @@ use super::edits::path_reply;
 use super::edits::settings_reply;
 use super::edits::shape_reply;
 use super::values::path_at_reply;
+use super::values::phase_reply;
 use super::values::shape_at_reply;
 use super::writing::NOWHERE;
 use super::writing::malformed;
@@ -52,6 +53,7 @@ fn reply_of(run: &[u8], tag: u64, from: Place, p: Player) -> Reply
         1 => shape_reply(run, from, p),
         2 => path_reply(run, from, p),
         3 => bus_reply(run, from, p),
+        4 => phase_reply(run, from, p),
         6 => shape_at_reply(run, from, p),
         7 => path_at_reply(run, from, p),
         _ => malformed(p),

@@ -1,15 +1,16 @@
-// The calls that evaluate a shape and a path: tags 6 and 7.
+// The calls that leave the player as it is: the phase, tag 4, and evaluating a shape and a path, tags 6 and 7.
 use super::Reply;
 use super::writing::malformed;
 use super::writing::zeros;
 use evaluate::Value;
 use player::Player;
+use player::Reading;
 use runs::Place;
 ghost use mathlib.Core.Path.{_≡_};
 ghost use Rattle.player.specs.Player.{Valid};
-ghost use Rattle.oracle.specs.Asked.{shapeAtCall, pathAtCall};
+ghost use Rattle.oracle.specs.Asked.{phaseCall, shapeAtCall, pathAtCall};
 ghost use Rattle.oracle.specs.Numbers.{valueNumbers, placeNumbers};
-ghost use Rattle.oracle.specs.Promises.{Says, RepliesTo};
+ghost use Rattle.oracle.specs.Promises.{readingNumbers, Says, RepliesTo};
 
 // The answer's number, and where it is 0 the value's bits.
 fn value_says(v: Value, next: Place, p: Player) -> Reply
@@ -61,6 +62,47 @@ fn place_says(v: evaluate::Place, next: Place, p: Player) -> Reply
             }
         }
     }
+}
+
+// The answer's number, and where it is 0 the phase's bits.
+fn reading_says(v: Reading, next: Place, p: Player) -> Reply
+    ensures { λ r. ⌜ Says (readingNumbers v) next p r ⌝ }
+{
+    match v {
+        Reading::Refused(n) => {
+            let numbers = [n as u64, 0, 0];
+            Reply {
+                numbers,
+                count: 1,
+                next,
+                player: p,
+            }
+        }
+        Reading::At(y) => {
+            let numbers = [0, replies::bits(y), 0];
+            Reply {
+                numbers,
+                count: 2,
+                next,
+                player: p,
+            }
+        }
+    }
+}
+
+// Tag 4: the phase.
+pub fn phase_reply(run: &[u8], from: Place, p: Player) -> Reply
+    requires { ⌜ Valid p ⌝ }
+    ensures { λ r. ⌜ RepliesTo phaseCall (now (run .entry)) from p r ⌝ }
+{
+    let t = runs::read_transport(run, from);
+    let next = t.next;
+    if next.good {
+        let codes = t.value;
+        let v = player::phase(p, codes);
+        return reading_says(v, next, p);
+    }
+    malformed(p)
 }
 
 // Tag 6: a shape at x.

@@ -4,3 +4,4 @@ pub mod Makings
 pub mod Sets
 pub mod Blocks
 pub mod Contracts
+pub mod Readings

@@ -1,2 +1,3 @@
 pub mod Player
 pub mod Promises
+pub mod Readings

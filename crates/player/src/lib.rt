@@ -3,6 +3,7 @@
 // `Valid` of specs/Player.antt is what every player has: `make` ensures it, and each other call asks it and keeps it.
 mod edits;
 mod making;
+mod phases;
 mod playing;
 
 pub use edits::set_bus;
@@ -10,6 +11,7 @@ pub use edits::set_path;
 pub use edits::set_settings;
 pub use edits::set_shape;
 pub use making::make;
+pub use phases::phase;
 pub use playing::play;
 use slot::Slot;
 
@@ -36,4 +38,10 @@ pub struct Played {
     pub answer: u8,
     pub finished: bool,
     pub player: Player,
+}
+
+// The number of the question that refused a read of the phase, or the phase.
+pub enum Reading {
+    Refused(u8),
+    At(f32),
 }

@@ -25,18 +25,23 @@ returns-4 c = rw (c .before .match .keys4) (c .bus-reply .ensures)
 
 returns-5 : tie.Need-returns-5
 unfolding byTag
-returns-5 c = rw (c .before .match .keys5) (c .shape-at-reply .ensures)
+returns-5 c = rw (c .before .match .keys5) (c .phase-reply .ensures)
 
 returns-6 : tie.Need-returns-6
 unfolding byTag
-returns-6 c = rw (c .before .match .keys6) (c .path-at-reply .ensures)
+returns-6 c = rw (c .before .match .keys6) (c .shape-at-reply .ensures)
 
 returns-7 : tie.Need-returns-7
-returns-7 c =
+unfolding byTag
+returns-7 c = rw (c .before .match .keys7) (c .path-at-reply .ensures)
+
+returns-8 : tie.Need-returns-8
+returns-8 c =
     let s = c .before .before .before in
     let a = s .args in
     let k = c .before .match .rest in
-    let none-is = other-tag (a .tag) (k .0 .0 .0 .0 .0 .1) (k .0 .0 .0 .0 .1) (k .0 .0 .0 .1) (k .0 .0 .1) (s .pre .1) (k .0 .1) (k .1) in
+    let l = k .0 .0 .0 in
+    let none-is = other-tag (a .tag) (l .0 .0 .0 .1) (l .0 .0 .1) (l .0 .1) (l .1) (k .0 .0 .1) (s .pre .1) (k .0 .1) (k .1) in
     rw (c .malformed .ensures) (replies-none (now (a .run)) (a .p) _ (onward-none (now (a .run)) (a .from) (a .tag) none-is) (s .pre .0))
 
 pub reply-of-spec : {M : Type 1} → statement M
@@ -50,10 +55,12 @@ reply-of-spec =
     (λ c κs. search needs)
     (λ c κs. search needs)
     (λ c κs. search needs)
+    (λ c κs. search needs)
     returns
     returns-2
     returns-3
     returns-4
     returns-5
     returns-6
-    returns-7)
+    returns-7
+    returns-8)
