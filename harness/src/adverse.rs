@@ -286,13 +286,13 @@ impl Adverse {
         (call, 0.0)
     }
 
-    fn next(&mut self, phase: bool) {
+    fn next(&mut self) {
         let tag = match self.v.below(32) {
             0..4 => 0,
             4..7 => 1,
             7 | 8 => 2,
             9..14 => 3,
-            14 | 15 if phase => 4,
+            14 | 15 => 4,
             16 => 6,
             17 => 7,
             _ => 5,
@@ -307,9 +307,8 @@ impl Adverse {
     }
 
     // A call of its own that is refused: were anything of it kept, the next block would show it.
-    fn refused(&mut self, phase: bool) {
+    fn refused(&mut self) {
         let tag = match self.v.below(10) {
-            4 if !phase => 0,
             8 | 9 => 5,
             tag => tag as usize,
         };
@@ -330,15 +329,15 @@ impl Adverse {
     }
 }
 
-/// The run of a seed, with phase reads or without.
-pub fn made(seed: u64, phase: bool) -> Made {
+/// The run of a seed.
+pub fn made(seed: u64) -> Made {
     let mut a = Adverse::new(seed);
     let (mut settings, smooth) = a.settings();
     (a.settings, a.smooth) = (settings, smooth);
     for _ in 0..3 + a.v.below(16) {
-        a.next(phase);
+        a.next();
         if a.v.one_in(8) {
-            a.refused(phase);
+            a.refused();
         }
     }
     if a.v.one_in(40) {

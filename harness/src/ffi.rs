@@ -119,8 +119,6 @@ pub fn number_write(out: &mut [u8], at: usize, n: u64) -> u64 {
     unsafe { written::number_write(out.as_mut_ptr(), out.len(), at, n) }
 }
 
-// crates/oracle, which build.rs links where its static library is there.
-#[cfg(oracle)]
 mod oracle {
     unsafe extern "C" {
         pub fn lfo_run(_: *const u8, _: usize, _: *mut u8, _: usize) -> u64;
@@ -128,12 +126,6 @@ mod oracle {
 }
 
 /// `lfo_run` of crates/oracle, as docs/RUN.md says.
-#[cfg(oracle)]
 pub fn lfo_run(run: &[u8], out: &mut [u8]) -> u64 {
     unsafe { oracle::lfo_run(run.as_ptr(), run.len(), out.as_mut_ptr(), out.len()) }
 }
-
-#[cfg(oracle)]
-pub const ORACLE: Option<crate::runs::Oracle> = Some(lfo_run);
-#[cfg(not(oracle))]
-pub const ORACLE: Option<crate::runs::Oracle> = None;

@@ -121,12 +121,9 @@ impl Figures {
         self.bank_differed += differed;
     }
 
-    fn missing(&self, phase: bool) -> Vec<String> {
+    fn missing(&self) -> Vec<String> {
         let mut missing = vec![];
         for (tag, numbers) in APPLY.iter().enumerate() {
-            if tag == 4 && !phase {
-                continue;
-            }
             for n in std::iter::once(&0).chain(*numbers) {
                 // question 8 is out of a run's reach
                 if *n != 8 && self.answers[tag][*n as usize] == 0 {
@@ -137,9 +134,9 @@ impl Figures {
         missing
     }
 
-    pub fn show(&self, phase: bool) {
+    pub fn show(&self) {
         print!("{self}");
-        let missing = self.missing(phase);
+        let missing = self.missing();
         if !missing.is_empty() {
             println!("  answers that did not come: {}", missing.join(", "));
         }

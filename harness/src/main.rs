@@ -60,7 +60,7 @@ const USAGE: &str = "usage: harness vectors chaos|curves
        harness vectors runs DIR
        harness show BYTES
        harness compare SUBJECT|all [COUNT] [SEED]
-       harness compare runs [COUNT] [SEED] [FRAMES] [without-phase]
+       harness compare runs [COUNT] [SEED] [FRAMES]
        harness compare runs long
 SUBJECT is floats, generators, curves, choices, position, clock or numbers; COUNT the least number of values of each.
 BYTES are those of a run, in hexadecimal.
@@ -68,8 +68,6 @@ Of runs, COUNT is the least number of runs and FRAMES of frames; run i has the s
 
 /// The runs of a short comparison.
 const RUNS: u64 = 100_000;
-/// Whether `compare all` plays runs with phase reads: to be true with the landing that brings that call.
-const PHASE: bool = false;
 
 fn number(word: &str) -> u64 {
     word.replace('_', "").parse().unwrap_or_else(|_| usage())
@@ -106,8 +104,8 @@ fn compare(subject: &str, count: Option<u64>, seed: u64) -> bool {
     if compared == 0 {
         usage();
     }
-    if subject == "all" && ffi::ORACLE.is_some() {
-        right &= runs(&[], PHASE);
+    if subject == "all" {
+        right &= runs(&[]);
     }
     println!(
         "{compared} values compared: {}",
@@ -120,8 +118,8 @@ fn compare(subject: &str, count: Option<u64>, seed: u64) -> bool {
     right
 }
 
-/// Compares whole runs, with phase reads or without: COUNT, SEED, FRAMES.
-fn runs(words: &[&str], phase: bool) -> bool {
+/// Compares whole runs: COUNT, SEED, FRAMES.
+fn runs(words: &[&str]) -> bool {
     if !is_release() {
         return false;
     }
@@ -133,9 +131,8 @@ fn runs(words: &[&str], phase: bool) -> bool {
         runs: word(0, RUNS),
         seed: word(1, 1),
         frames: word(2, 0),
-        phase,
     };
-    runs::compare(ffi::ORACLE, &wanted)
+    runs::compare(&wanted)
 }
 
 fn stored_runs(dir: &str) -> bool {
@@ -161,12 +158,11 @@ fn main() {
         ["vectors", "runs", dir] => stored_runs(dir),
         ["show", hex] => {
             let bytes = shrunk::unhex(hex).unwrap_or_else(|| usage());
-            shrunk::show(&bytes, ffi::ORACLE);
+            shrunk::show(&bytes);
             true
         }
-        ["compare", "runs", "long"] => runs::compare_long(ffi::ORACLE),
-        ["compare", "runs", ref rest @ .., "without-phase"] => runs(rest, false),
-        ["compare", "runs", ref rest @ ..] => runs(rest, true),
+        ["compare", "runs", "long"] => runs::compare_long(),
+        ["compare", "runs", ref rest @ ..] => runs(rest),
         ["compare", subject] => compare(subject, None, 1),
         ["compare", subject, count] => compare(subject, Some(number(count)), 1),
         ["compare", subject, count, seed] => compare(subject, Some(number(count)), number(seed)),

@@ -5,7 +5,7 @@ use crate::lfo::{Lfo, Mode};
 use crate::player::{Player, path_of, shape_of, transport_of};
 use crate::questions;
 use crate::reading::Reader;
-use crate::run::{Block, Call, Path, Run, Settings, Shape, put_number};
+use crate::run::{Block, Call, Path, Settings, Shape, put_number};
 use crate::tally::bits32;
 
 const MALFORMED: u64 = 255;
@@ -211,21 +211,6 @@ pub fn play(bytes: &[u8], smooths: &[f32], figures: &mut Figures) -> Played {
         };
         let i = playing.played.entries.len();
         playing.call(&call, smooth(i));
-    }
-    let (played, figures) = ended(playing);
-    figures.endings[0] += 1;
-    played
-}
-
-/// Plays a run as it is, by no bytes: what the reading is held to.
-pub fn play_run(run: &Run, smooths: &[f32], figures: &mut Figures) -> Played {
-    let smooth = |i: usize| smooths.get(i).copied().unwrap_or(0.0);
-    let mut playing = match make((&run.settings, run.seed), smooth(0), figures) {
-        Ok(playing) => playing,
-        Err(played) => return played,
-    };
-    for (i, call) in run.calls.iter().enumerate() {
-        playing.call(call, smooth(i + 1));
     }
     let (played, figures) = ended(playing);
     figures.endings[0] += 1;

@@ -1,8 +1,9 @@
 //! Whole runs against the Rust source: the bytes that `lfo_run` of crates/oracle gives against those of reference.rs, every byte of `out`.
 //! A run is made from its seed (adverse.rs); run i of a comparison has the seed SEED + i, so that `compare runs 1 S` plays the run of seed S alone.
 use crate::adverse::{Made, made};
+use crate::ffi::lfo_run;
 use crate::figures::{CALLS, Figures};
-use crate::reference::{Entry, Played, play, play_run};
+use crate::reference::{Entry, Played, play};
 use crate::run::Run;
 use crate::shrunk::{show_run, shrunk};
 use crate::tally::ZERO_OF_MAX;
@@ -10,20 +11,14 @@ use crate::values::Values;
 use crate::written::long_runs;
 use std::time::Instant;
 
-/// Takes the bytes of a run and `out`, answers how many bytes it wrote.
-pub type Oracle = fn(&[u8], &mut [u8]) -> u64;
-
 /// What a comparison is to play: so many runs, and more until so many frames.
 pub struct Wanted {
     pub runs: u64,
     pub frames: u64,
     pub seed: u64,
-    /// With phase reads.
-    pub phase: bool,
 }
 
 struct Comparison {
-    oracle: Option<Oracle>,
     figures: Figures,
     differed: u64,
     known: u64,
@@ -94,16 +89,11 @@ fn is_zero_of_max(played: &Played, ours: &[u8]) -> bool {
 }
 
 /// What a function gives with room for all, and more than that to spare.
-fn whole(oracle: Oracle, bytes: &[u8], played: &Played) -> Vec<u8> {
+pub fn whole(bytes: &[u8], played: &Played) -> Vec<u8> {
     let mut out = vec![0; played.out.len() + 65_536];
-    let n = oracle(bytes, &mut out) as usize;
+    let n = lfo_run(bytes, &mut out) as usize;
     out.truncate(n);
     out
-}
-
-fn has_phase(bytes: &[u8]) -> bool {
-    let played = play(bytes, &[], &mut Figures::default());
-    played.entries.iter().any(|e| e.tag == 4)
 }
 
 pub fn hex(bytes: &[u8]) -> String {
@@ -111,17 +101,16 @@ pub fn hex(bytes: &[u8]) -> String {
 }
 
 // Whether a run differs, but for the zero of `max`.
-fn differs(oracle: Oracle, run: &Run) -> bool {
+fn differs(run: &Run) -> bool {
     let bytes = run.bytes();
     let played = play(&bytes, &[], &mut Figures::default());
-    let ours = whole(oracle, &bytes, &played);
+    let ours = whole(&bytes, &played);
     ours != played.out && !is_zero_of_max(&played, &ours)
 }
 
 impl Comparison {
-    fn new(oracle: Option<Oracle>) -> Self {
+    fn new() -> Self {
         Self {
-            oracle,
             figures: Figures::default(),
             differed: 0,
             known: 0,
@@ -131,9 +120,6 @@ impl Comparison {
     // Says how many runs and frames were compared, and answers whether all differences are known.
     fn right(&self, start: Instant) -> bool {
         let seconds = start.elapsed().as_secs_f64();
-        if self.oracle.is_none() {
-            println!("crates/oracle is not linked: the reference was held to itself");
-        }
         println!(
             "runs       {:>11} compared, {} frames, {} differed ({} by {ZERO_OF_MAX}), {seconds:.1} s",
             self.figures.runs, self.figures.frames, self.differed, self.known
@@ -154,8 +140,8 @@ impl Comparison {
         (end + v.index(3)).saturating_sub(1)
     }
 
-    fn show_difference(&mut self, seed: u64, made: &Made, played: &Played, oracle: Oracle) {
-        let ours = whole(oracle, &made.bytes, played);
+    fn show_difference(&mut self, seed: u64, made: &Made, played: &Played) {
+        let ours = whole(&made.bytes, played);
         if is_zero_of_max(played, &ours) {
             self.known += 1;
             if self.known == 1 {
@@ -177,10 +163,10 @@ impl Comparison {
         if made.spoiled || made.run.calls.len() > 100 {
             return;
         }
-        let run = shrunk(&made.run, |run| differs(oracle, run));
+        let run = shrunk(&made.run, differs);
         let bytes = run.bytes();
         let played = play(&bytes, &[], &mut Figures::default());
-        let ours = whole(oracle, &bytes, &played);
+        let ours = whole(&bytes, &played);
         let what = first_difference(&played, &ours);
         println!("    with {} calls: {what}", run.calls.len());
         println!("    bytes {}", hex(&bytes));
@@ -189,31 +175,23 @@ impl Comparison {
         }
     }
 
-    fn run(&mut self, seed: u64, made: &Made, phase: bool) {
-        // spoiled bytes can read as a phase read
-        if !phase && made.spoiled && has_phase(&made.bytes) {
-            return;
-        }
+    fn run(&mut self, seed: u64, made: &Made) {
         let played = play(&made.bytes, &made.smooths, &mut self.figures);
         self.figures.runs += 1;
-        let Some(oracle) = self.oracle else {
-            self.check_reading(seed, made, &played);
-            return;
-        };
         let mut v = Values::new(!seed);
         let out_len = Self::out_len(&mut v, &played);
         let written = played.fits(out_len);
         self.figures.short += u64::from(written < played.out.len());
         let fill = v.word() as u8;
         let mut out = vec![fill; out_len];
-        let n = oracle(&made.bytes, &mut out);
+        let n = lfo_run(&made.bytes, &mut out);
         let same = n == written as u64
             && out[..written] == played.out[..written]
             && out[written..].iter().all(|b| *b == fill);
         if !same {
             self.differed += 1;
-            if whole(oracle, &made.bytes, &played) != played.out {
-                self.show_difference(seed, made, &played, oracle);
+            if whole(&made.bytes, &played) != played.out {
+                self.show_difference(seed, made, &played);
             } else if self.differed - self.known <= 10 {
                 println!(
                     "runs differ, seed {seed}: `out` of {out_len} bytes, wrote {n}, by RUN.md {written}; bytes {}",
@@ -222,37 +200,26 @@ impl Comparison {
             }
         }
     }
-
-    // With no oracle: the bytes of a run must read as that run.
-    fn check_reading(&mut self, seed: u64, made: &Made, played: &Played) {
-        if !made.spoiled {
-            let direct = play_run(&made.run, &made.smooths, &mut Figures::default());
-            if direct.out != played.out {
-                self.differed += 1;
-                println!("the reading differs, seed {seed}");
-            }
-        }
-    }
 }
 
 /// Compares runs and answers whether every difference is a known one.
-pub fn compare(oracle: Option<Oracle>, wanted: &Wanted) -> bool {
+pub fn compare(wanted: &Wanted) -> bool {
     let start = Instant::now();
-    let mut c = Comparison::new(oracle);
+    let mut c = Comparison::new();
     let mut i = 0;
     while i < wanted.runs || c.figures.frames < wanted.frames {
         let seed = wanted.seed.wrapping_add(i);
-        c.run(seed, &made(seed, wanted.phase), wanted.phase);
+        c.run(seed, &made(seed));
         i += 1;
     }
-    c.figures.show(wanted.phase);
+    c.figures.show();
     c.right(start)
 }
 
 /// Compares the long runs (written.rs).
-pub fn compare_long(oracle: Option<Oracle>) -> bool {
+pub fn compare_long() -> bool {
     let start = Instant::now();
-    let mut c = Comparison::new(oracle);
+    let mut c = Comparison::new();
     for (i, run) in long_runs().into_iter().enumerate() {
         let made = Made {
             bytes: run.bytes(),
@@ -260,7 +227,7 @@ pub fn compare_long(oracle: Option<Oracle>) -> bool {
             smooths: vec![],
             spoiled: false,
         };
-        c.run(i as u64, &made, false);
+        c.run(i as u64, &made);
     }
     c.right(start)
 }

@@ -5,7 +5,7 @@ use crate::questions;
 use crate::reading::Reader;
 use crate::reference::play;
 use crate::run::{Call, Run, Settings};
-use crate::runs::{Oracle, hex, numbers};
+use crate::runs::{hex, numbers, whole};
 
 /// Drops calls and points and halves blocks as long as the run still differs.
 pub fn shrunk(run: &Run, differs: impl Fn(&Run) -> bool) -> Run {
@@ -114,7 +114,7 @@ pub fn show_run(run: &Run) {
 }
 
 /// Shows a run by its bytes: its calls as far as they can be read, what the reference gives to each, and all that `lfo_run` gives.
-pub fn show(bytes: &[u8], oracle: Option<Oracle>) {
+pub fn show(bytes: &[u8]) {
     let mut reader = Reader::new(bytes);
     if let Some((settings, seed)) = reader.make() {
         let mut calls = vec![];
@@ -136,11 +136,7 @@ pub fn show(bytes: &[u8], oracle: Option<Oracle>) {
         start = e.end;
     }
     println!("  then {:?}; in all {}", played.ending, hex(&played.out));
-    if let Some(oracle) = oracle {
-        let mut out = vec![0; played.out.len() + 65_536];
-        let n = oracle(bytes, &mut out) as usize;
-        println!("  lfo_run gives {}", hex(&out[..n]));
-    }
+    println!("  lfo_run gives {}", hex(&whole(bytes, &played)));
 }
 
 /// The bytes of hexadecimal digits.

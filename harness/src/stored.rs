@@ -363,8 +363,8 @@ fn phases(list: &mut List) {
 // Each number that can be the answer to each call, twice.
 fn refusals(list: &mut List) {
     let mut a = Adverse::new(4);
-    for tag in 0..APPLY.len() {
-        for number in APPLY[tag].iter().filter(|n| **n != 8) {
+    for (tag, numbers) in APPLY.iter().enumerate() {
+        for number in numbers.iter().filter(|n| **n != 8) {
             for _ in 0..2 {
                 add(list, refusal(&mut a, tag, *number));
             }
@@ -421,7 +421,7 @@ fn malformed(list: &mut List) {
 fn adverse(list: &mut List) {
     let mut wanted = 40;
     for seed in 0.. {
-        let m = made(seed, true);
+        let m = made(seed);
         let played = play(&m.bytes, &m.smooths, &mut Figures::default());
         let blocks = played
             .entries

@@ -26,7 +26,8 @@ unfoldable pub givenBy : State → (State → ℕ → List (List ℕ)) → Parse
 givenBy p rest malformed = ill
 givenBy p rest (read a at) = numbers p a ∷ rest (stateAfter p a) at
 
--- What the calls from the place `at` on give to the player p. Each takes a byte or more, so there are no more of them than bytes.
+-- What the calls from the place `at` on give to the player p, of which `most` are looked at. Each takes a byte or more, so there are no more of them than bytes:
+-- `enough` of proofs/Enough.antt.
 unfoldable pub given : ℕ → State → List ℕ → ℕ → List (List ℕ)
 given zero p run at = []
 given (suc most) p run at = cond (ltb at (length run)) (givenBy p (λ q. given most q run) (asked run at)) []

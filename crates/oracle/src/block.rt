@@ -19,15 +19,17 @@ ghost use Rattle.oracle.specs.Promises.{howMany, TurnsOn, TurnsBy};
 // The most elements of a buffer.
 const MOST: usize = 8192;
 
+// A buffer's length is below this.
 const LIMIT: u64 = 8193;
 
+// No as 0, yes as 1.
 fn flag(b: bool) -> u64
     ensures { λ r. ⌜ r ≡ flagOf b ⌝ }
 {
     if b { 1 } else { 0 }
 }
 
-// How many numbers come before the buffers.
+// How many numbers come before those of the buffers: the answer, and where it is 0 `finished`.
 fn how_many(answer: u8) -> usize
     ensures { λ r. ⌜ r ≡ howMany answer ⌝ }
 {
@@ -94,6 +96,7 @@ fn play_anew(
     )
 }
 
+// Reads a block's bytes, plays it, and writes what it gives.
 pub fn block_turn(run: &[u8], from: Place, p: Player, out: &mut [u8], place: usize) -> Turn
     requires { ⌜ Valid p ⌝ }
     ensures { λ r. ⌜ TurnsOn blockCall (now (run .entry)) from p (now (out .entry)) place r (now (out .exit)) ⌝ }

@@ -61,7 +61,7 @@ pub fn turn_of(w: Writing, place: usize, next: Place, p: Player) -> Turn
     }
 }
 
-// Writes a reply.
+// Writes a reply's numbers at `place`.
 pub fn write_reply(out: &mut [u8], place: usize, r: Reply) -> Turn
     requires { ⌜ (length (r .numbers) ≡ 3) × (r .count ≤ 3) × Valid (r .player) ⌝ }
     ensures { λ t. ⌜ ((run : _) → Turns run (replied run r) (now (out .entry)) place t (now (out .exit))) ⌝ }

@@ -1,0 +1,70 @@
+-- Some calls at the limits, which the definitions answer by computation. Assumes nothing.
+use Prim.Native.Nat.{ℕ, _-_, _^_}
+use mathlib.Core.Path.{_≡_, refl}
+use mathlib.Core.Bool.{true}
+use mathlib.Core.List.{List, [], _∷_}
+use lib.ListN.{replicate}
+use lib.Ieee.{Float, nan, neg, ofBits, le}
+use lib.Ieee.Scale.{finite}
+use Rattle.floatlaws.specs.Numbers.{f32-0, f32-1, f32-100, f64-0, f64-4, f64-120}
+use Rattle.settings.specs.declared.record.TransportCodes.{TransportCodes}
+use Rattle.settings.specs.Codes.{transportKnown}
+use Rattle.curves.specs.Given.{noMod}
+use Rattle.questions.specs.Limits.{f64-1000, f64-768000, f32-16}
+use Rattle.questions.specs.Tests.{every, pointKnown, pointFinite, transportFinite, transportIn}
+use Rattle.questions.specs.Questions.{firstNo, shapeQuestions, busQuestions, blockQuestions}
+
+-- ---- blocks
+
+abbrev transport : Float → ℕ → TransportCodes
+transport rate playing =
+    record {
+      «sample_rate» = rate;
+      tempo = f64-120;
+      «beats_per_bar» = f64-4;
+      playing = playing;
+      beats = f64-0;
+      seconds = f64-0;
+      swing = f32-0;
+      scale = record { code = 0; percent = f32-100 };
+    }
+
+-- of so many frames, by a player that has played so many, with room for 4,097
+abbrev block : ℕ → ℕ → ℕ
+block played frames = firstNo (blockQuestions played (transport f64-1000 0) frames (record { code = 0; frame = 0 }) 4097 4097)
+
+-- "4,096 frames pass, 4,097 get 7; 0 frames pass"; 2^40 frames in all pass, and one more gets 8
+frames : block 0 4096 ∷ block 0 4097 ∷ block 0 0 ∷ block (2 ^ 40 - 4096) 4096 ∷ block (2 ^ 40 - 4095) 4096 ∷ block (2 ^ 40) 0 ∷ block (2 ^ 40) 1 ∷ []
+    ≡ 0 ∷ 7 ∷ 0 ∷ 0 ∷ 8 ∷ 0 ∷ 8 ∷ []
+unfolding firstNo blockQuestions transportKnown transportFinite transportIn finite le neg ofBits
+frames = refl
+
+-- a block that fails several: "the first "no" gives the number"
+abbrev failing : Float → ℕ → ℕ → ℕ
+failing rate playing code = firstNo (blockQuestions 0 (transport rate playing) 4097 (record { code = code; frame = 0 }) 0 0)
+
+first : failing nan 2 0 ∷ failing nan 0 2 ∷ failing nan 0 0 ∷ failing f64-4 0 0 ∷ failing f64-768000 0 0 ∷ [] ≡ 1 ∷ 1 ∷ 2 ∷ 6 ∷ 7 ∷ []
+unfolding firstNo blockQuestions transportKnown transportFinite transportIn finite le neg ofBits
+first = refl
+
+-- ---- shapes
+
+-- of so many points at 0, 0, with so many strengths of e, and a loopback at this index
+abbrev shape : ℕ → ℕ → Float → ℕ → ℕ
+shape count given e index =
+    firstNo
+    (shapeQuestions true
+    (replicate 64 (record { x = f32-0; y = f32-0; curve = f32-0; step = 0; «x_mod» = noMod; «y_mod» = noMod }))
+    count (record { code = 1; index = index }) (replicate given e))
+
+-- question 3 counts the points kept, and so does question 4
+kept : shape 2 2 f32-16 1 ∷ shape 2 2 f32-16 2 ∷ shape 2 3 f32-16 9 ∷ shape 70 64 f32-1 63 ∷ shape 70 70 f32-1 63 ∷ shape 2 2 f32-100 1 ∷ shape 2 3 nan 9 ∷ []
+    ≡ 0 ∷ 4 ∷ 3 ∷ 0 ∷ 3 ∷ 5 ∷ 2 ∷ []
+unfolding firstNo shapeQuestions every pointKnown pointFinite finite le ofBits
+kept = refl
+
+-- ---- buses
+
+buses : firstNo (busQuestions 15 f32-1) ∷ firstNo (busQuestions 16 f32-1) ∷ firstNo (busQuestions 16 nan) ∷ [] ≡ 0 ∷ 9 ∷ 2 ∷ []
+unfolding firstNo busQuestions finite ofBits
+buses = refl
