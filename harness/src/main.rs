@@ -1,10 +1,10 @@
 //! Holds the Rattle crates to the Rust source, bit by bit, any two NaN being equal; and writes the vectors that programs of the repository
-//! are held to. After `rt staticlib exports`, in this folder:
+//! are held to. `run` beside this folder builds it, with the libraries that it links:
 //!
-//!     cargo run --release --offline -- compare all
-//!     cargo run --release --offline -- compare floats 100000000 7
-//!     cargo run --release --offline -- compare runs 1000000 7 300000000
-//!     cargo run --release --offline -- vectors chaos
+//!     harness/run compare all
+//!     harness/run compare floats 100000000 7
+//!     harness/run compare runs 1000000 11 300000000
+//!     harness/run vectors chaos
 //!
 //! Only a release build compares: Rust leaves open which zero `max` gives for −0 and 0, and a debug build gives another one than a release
 //! build. Ours gives 0 (document 01).
@@ -22,6 +22,7 @@ mod generators;
 mod numbers;
 mod player;
 mod position;
+mod progress;
 mod questions;
 mod reading;
 mod reference;
@@ -39,7 +40,6 @@ mod written;
 
 use runs::Wanted;
 use std::path::Path;
-use std::time::Instant;
 use tally::Tally;
 use values::Values;
 
@@ -56,12 +56,12 @@ const SUBJECTS: [(&str, Compare, u64); 7] = [
     ("numbers", numbers::compare, 50_000_000),
 ];
 
-const USAGE: &str = "usage: harness vectors chaos|curves
-       harness vectors runs DIR
-       harness show BYTES
-       harness compare SUBJECT|all [COUNT] [SEED]
-       harness compare runs [COUNT] [SEED] [FRAMES]
-       harness compare runs long
+const USAGE: &str = "usage: harness/run vectors chaos|curves
+       harness/run vectors runs DIR
+       harness/run show BYTES
+       harness/run compare SUBJECT|all [COUNT] [SEED]
+       harness/run compare runs [COUNT] [SEED] [FRAMES]
+       harness/run compare runs long
 SUBJECT is floats, generators, curves, choices, position, clock or numbers; COUNT the least number of values of each.
 BYTES are those of a run, in hexadecimal.
 Of runs, COUNT is the least number of runs and FRAMES of frames; run i has the seed SEED + i.";
@@ -95,9 +95,8 @@ fn compare(subject: &str, count: Option<u64>, seed: u64) -> bool {
     for (name, compare, short) in SUBJECTS {
         if subject == name || subject == "all" {
             let mut tally = Tally::new(name, seed, count.unwrap_or(short));
-            let start = Instant::now();
             compare(&mut tally, &mut Values::new(seed));
-            right &= tally.show(start.elapsed().as_secs_f64());
+            right &= tally.show();
             compared += tally.compared;
         }
     }

@@ -3,13 +3,13 @@
 use crate::adverse::{Made, made};
 use crate::ffi::lfo_run;
 use crate::figures::{CALLS, Figures};
+use crate::progress::Progress;
 use crate::reference::{Entry, Played, play};
 use crate::run::Run;
 use crate::shrunk::{show_run, shrunk};
 use crate::tally::ZERO_OF_MAX;
 use crate::values::Values;
 use crate::written::long_runs;
-use std::time::Instant;
 
 /// What a comparison is to play: so many runs, and more until so many frames.
 pub struct Wanted {
@@ -19,6 +19,7 @@ pub struct Wanted {
 }
 
 struct Comparison {
+    progress: Progress,
     figures: Figures,
     differed: u64,
     known: u64,
@@ -111,6 +112,7 @@ fn differs(run: &Run) -> bool {
 impl Comparison {
     fn new() -> Self {
         Self {
+            progress: Progress::new(),
             figures: Figures::default(),
             differed: 0,
             known: 0,
@@ -118,8 +120,8 @@ impl Comparison {
     }
 
     // Says how many runs and frames were compared, and answers whether all differences are known.
-    fn right(&self, start: Instant) -> bool {
-        let seconds = start.elapsed().as_secs_f64();
+    fn right(&self) -> bool {
+        let seconds = self.progress.seconds();
         println!(
             "runs       {:>11} compared, {} frames, {} differed ({} by {ZERO_OF_MAX}), {seconds:.1} s",
             self.figures.runs, self.figures.frames, self.differed, self.known
@@ -175,6 +177,22 @@ impl Comparison {
         }
     }
 
+    // How far it is; `frames` is 0 where any number will do.
+    fn show_progress(&mut self, runs: u64, frames: u64) {
+        let f = &self.figures;
+        let wanted = if frames > 0 {
+            format!(" of {frames}")
+        } else {
+            String::new()
+        };
+        self.progress.show(|| {
+            format!(
+                "runs       {:>11} of {runs}, {}{wanted} frames",
+                f.runs, f.frames
+            )
+        });
+    }
+
     fn run(&mut self, seed: u64, made: &Made) {
         let played = play(&made.bytes, &made.smooths, &mut self.figures);
         self.figures.runs += 1;
@@ -204,30 +222,32 @@ impl Comparison {
 
 /// Compares runs and answers whether every difference is a known one.
 pub fn compare(wanted: &Wanted) -> bool {
-    let start = Instant::now();
     let mut c = Comparison::new();
     let mut i = 0;
     while i < wanted.runs || c.figures.frames < wanted.frames {
         let seed = wanted.seed.wrapping_add(i);
+        c.show_progress(wanted.runs, wanted.frames);
         c.run(seed, &made(seed));
         i += 1;
     }
     c.figures.show();
-    c.right(start)
+    c.right()
 }
 
 /// Compares the long runs (written.rs).
 pub fn compare_long() -> bool {
-    let start = Instant::now();
     let mut c = Comparison::new();
-    for (i, run) in long_runs().into_iter().enumerate() {
+    let runs = long_runs();
+    let count = runs.len() as u64;
+    for (i, run) in runs.into_iter().enumerate() {
         let made = Made {
             bytes: run.bytes(),
             run,
             smooths: vec![],
             spoiled: false,
         };
+        c.show_progress(count, 0);
         c.run(i as u64, &made);
     }
-    c.right(start)
+    c.right()
 }

@@ -1,4 +1,5 @@
 //! Counts what was compared and what differed, and shows the first differences with what they came from.
+use crate::progress::Progress;
 use std::fmt::Display;
 
 /// The one difference that document 01 lets stand. Rust leaves open which zero it is; ours is 0. Its smallest inputs: `max` of −0 and 0, and
@@ -15,6 +16,7 @@ pub struct Tally {
     /// How many of the differences are known ones, and what gave the first of them.
     pub known: u64,
     first_known: String,
+    progress: Progress,
 }
 
 /// The bits of a float as crates/exports gives them: every NaN has one pattern.
@@ -44,12 +46,16 @@ impl Tally {
             differed: 0,
             known: 0,
             first_known: String::new(),
+            progress: Progress::new(),
         }
     }
 
-    /// Whether more values are wanted.
-    pub fn goes_on(&self) -> bool {
-        self.compared < self.wanted
+    /// Whether more values are wanted. Shows how far it is.
+    pub fn goes_on(&mut self) -> bool {
+        let (subject, compared, wanted) = (self.subject, self.compared, self.wanted);
+        self.progress
+            .show(|| format!("{subject:<10} {compared:>11} of {wanted}"));
+        compared < wanted
     }
 
     /// Compares two words; `input` says what gave them.
@@ -96,7 +102,8 @@ impl Tally {
     }
 
     /// One line: how many were compared, how many differed. Answers whether all of these are known.
-    pub fn show(&self, seconds: f64) -> bool {
+    pub fn show(&self) -> bool {
+        let seconds = self.progress.seconds();
         print!(
             "{:<10} {:>11} compared, {} differed",
             self.subject, self.compared, self.differed

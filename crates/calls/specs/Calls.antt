@@ -86,6 +86,11 @@ accepted p (block c frames restart x y) = byTransport p (transportAt c) λ t. pl
 unfoldable pub step : State → Call → State
 step p c = cond (accepts p c) (accepted p c) p
 
+-- the player after a list of calls: "Every call gets the player as the last one returned or left it"
+unfoldable pub after : State → List Call → State
+after p [] = p
+after p (c ∷ cs) = after (step p c) cs
+
 -- ---- what a block leaves in a buffer: one value of each frame, and then what it held
 
 unfoldable pub played : State → TransportCodes → ℕ → RestartCodes → (Frame → Float) → List Float → List Float

@@ -1,3 +1,4 @@
 pub mod State
 pub mod Blocks
 pub mod Calls
+pub mod Laws

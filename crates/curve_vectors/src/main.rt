@@ -1,5 +1,5 @@
-// Writes values of drawn shapes and XY paths, as the bits of f32. The file `stdout` has what they must be: the Rust source wrote it, in
-// harness/ by `cargo run --release --offline -- vectors curves > ../crates/curve_vectors/stdout`.
+// Writes values of drawn shapes and XY paths, as the bits of f32. The file `stdout` has what they must be: the Rust source wrote it,
+// by `harness/run vectors curves > crates/curve_vectors/stdout`.
 //
 // A curve is a line with its name, a line with its first eight strengths or legs, and a line for each position: the position, the value
 // there, and the value with the points moved by the buses. Strengths and legs are those that the Rust source gives.

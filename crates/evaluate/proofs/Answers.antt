@@ -1,33 +1,36 @@
--- The number of each answer is the questions'. Assumes nothing.
-use Prim.Native.Nat.{ℕ, zero, suc}
-use mathlib.Core.Path.{_≡_, refl}
-use mathlib.Core.List.{List}
+-- An answer's number and values tell its case, so that a promise of them is one of the enum. Assumes nothing.
+use Prim.Native.Nat.{ℕ}
+use mathlib.Core.Path.{_≡_, refl, sym, ap, _∙_}
+use mathlib.Core.List.{List, [], _∷_}
 use lib.Ieee.{Float}
-use lib.Ieee.Scale.{finite}
-use Rattle.listlaws.proofs.LastWhere.{later}
-use Rattle.path_segments.specs.declared.Xy.{Xy}
-use Rattle.curves.specs.declared.PointCodes.{PointCodes}
-use Rattle.curves.specs.declared.PathPointCodes.{PathPointCodes}
-use Rattle.curves.specs.declared.LoopbackCodes.{LoopbackCodes}
-use Rattle.questions.specs.Questions.{firstNo, shapeQuestions, pathQuestions}
-use Rattle.evaluate.specs.Values.{valueNumber, valueOf, evaluatedShape, placeNumber, placeOf, evaluatedPath}
+use Rattle.questions.specs.Answers.{Answer}
+use Rattle.evaluate.specs.declared.Value.{Value}
+use Rattle.evaluate.specs.declared.Value.the-variants as Value
+use Rattle.evaluate.specs.declared.Place.{Place}
+use Rattle.evaluate.specs.declared.Place.the-variants as Place
+use Rattle.evaluate.specs.Values.{valueAnswer, placeAnswer}
 
-value-number : (n : ℕ) (v : Float) → valueNumber (valueOf n v) ≡ n
-unfolding valueOf valueNumber
-value-number zero v = refl
-value-number (suc n) v = rw (later n)
+value-case : ℕ → List Float → Value
+value-case n [] = Value.Refused n
+value-case n (v ∷ l) = Value.At v
 
-pub shape-number : (points : List PointCodes) (count : ℕ) (loopback : LoopbackCodes) (strengths : List Float) (x : Float)
-    → valueNumber (evaluatedShape points count loopback strengths x) ≡ firstNo (shapeQuestions (finite x) points count loopback strengths)
-unfolding evaluatedShape
-shape-number points count loopback strengths x = value-number _ _
+value-told : (r : Value) → value-case (valueAnswer r .number) (valueAnswer r .values) ≡ r
+unfolding valueAnswer value-case
+value-told (Value.Refused n) = refl
+value-told (Value.At v) = refl
 
-place-number : (n : ℕ) (v : Xy) → placeNumber (placeOf n v) ≡ n
-unfolding placeOf placeNumber
-place-number zero v = refl
-place-number (suc n) v = rw (later n)
+pub value-injective : (r s : Value) → valueAnswer r ≡ valueAnswer s → r ≡ s
+value-injective r s e = sym (value-told r) ∙ ap (λ (a : Answer). value-case (a .number) (a .values)) e ∙ value-told s
 
-pub path-number : (points : List PathPointCodes) (count closed : ℕ) (legs : List Float) (t : Float)
-    → placeNumber (evaluatedPath points count closed legs t) ≡ firstNo (pathQuestions (finite t) points count closed legs)
-unfolding evaluatedPath
-path-number points count closed legs t = place-number _ _
+place-case : ℕ → List Float → Place
+place-case n [] = Place.Refused n
+place-case n (x ∷ []) = Place.Refused n
+place-case n (x ∷ y ∷ l) = Place.At x y
+
+place-told : (r : Place) → place-case (placeAnswer r .number) (placeAnswer r .values) ≡ r
+unfolding placeAnswer place-case
+place-told (Place.Refused n) = refl
+place-told (Place.At x y) = refl
+
+pub place-injective : (r s : Place) → placeAnswer r ≡ placeAnswer s → r ≡ s
+place-injective r s e = sym (place-told r) ∙ ap (λ (a : Answer). place-case (a .number) (a .values)) e ∙ place-told s

@@ -4,7 +4,7 @@ use curves::PathPointCodes;
 use curves::PointCodes;
 use points::MAX_POINTS;
 ghost use mathlib.Core.Path.{_≡_};
-ghost use Rattle.evaluate.specs.Values.{evaluatedShape, evaluatedPath};
+ghost use Rattle.evaluate.specs.Values.{valueAnswer, evaluatedShape, placeAnswer, evaluatedPath};
 
 // The number of the question that refused the call, or the value of a shape.
 pub enum Value {
@@ -26,7 +26,7 @@ pub fn evaluate_shape(
     strengths: &[f32],
     x: f32,
 ) -> Value
-    ensures { λ r. ⌜ r ≡ evaluatedShape points count loopback (now (strengths .entry)) x ⌝ }
+    ensures { λ r. ⌜ valueAnswer r ≡ evaluatedShape points count loopback (now (strengths .entry)) x ⌝ }
 {
     let others = questions::is_finite_f32(x);
     let answer = questions::shape_answer(others, points, count, loopback, strengths);
@@ -45,7 +45,7 @@ pub fn evaluate_path(
     legs: &[f32],
     t: f32,
 ) -> Place
-    ensures { λ r. ⌜ r ≡ evaluatedPath points count closed (now (legs .entry)) t ⌝ }
+    ensures { λ r. ⌜ placeAnswer r ≡ evaluatedPath points count closed (now (legs .entry)) t ⌝ }
 {
     let others = questions::is_finite_f32(t);
     let answer = questions::path_answer(others, points, count, closed, legs);

@@ -7,8 +7,8 @@ use native.Mathlib.Omega.{arith}
 use borrow.Author.Tests.{leb-true, le-ltb}
 use lib.ListN.{length, length-append}
 use Rattle.calls.specs.State.{State}
-use Rattle.replies.specs.Replies.{bytesOf, fits}
-use Rattle.oracle.specs.Output.{given, fitting}
+use Rattle.replies.specs.Replies.{bytesOf, fits, fitting}
+use Rattle.oracle.specs.Output.{given}
 
 -- what fits has room
 pub fitting-room : (len place : ℕ) (all : List (List ℕ)) → place ≤ len → place + length (fitting len place all) ≤ len

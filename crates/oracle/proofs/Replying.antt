@@ -4,19 +4,14 @@ use mathlib.Core.Path.{_≡_, refl, sym, ap, _∙_}
 use mathlib.Core.Bool.{Bool, true, false, cond}
 use mathlib.Core.List.{List, [], _∷_}
 use native.Mathlib.Omega.{arith}
-use borrow.Author.Tests.{eqb-true}
 use lib.Dec.{eqb}
 use lib.ListN.{length, take}
-use lib.Ieee.{binary32, toBits}
 use Rattle.settings.specs.declared.record.SettingsCodes.{SettingsCodes}
 use Rattle.settings.specs.declared.record.TransportCodes.{TransportCodes}
-use Rattle.settings.specs.declared.record.TransportCode.{TransportCode}
-use Rattle.settings.specs.declared.record.TransportCode.the-variants as TransportCode
-use Rattle.settings.specs.Codes.{transportAt}
 use Rattle.questions.specs.Questions.{firstNo, settingsQuestions}
+use Rattle.questions.specs.Answers.{Answer}
 use Rattle.calls.specs.State.{State}
-use Rattle.calls.specs.Blocks.{phaseOf}
-use Rattle.calls.specs.Calls.{Call, answer, accepts, byTransport, accepted, step}
+use Rattle.calls.specs.Calls.{Call, answer, accepts, accepted, step}
 use Rattle.calls.specs.Calls as Calls
 use Rattle.runs.specs.declared.fields.Place.{Place}
 use Rattle.runs.specs.Parser.{Parsed, malformed, onward, Reads}
@@ -25,14 +20,13 @@ use Rattle.player.specs.declared.Player.{Player}
 use Rattle.player.specs.declared.Made.{Made}
 use Rattle.player.specs.declared.Changed.{Changed}
 use Rattle.player.specs.Player.{stateOf, Valid}
-use Rattle.player.specs.declared.Reading.the-variants as Reading
 use Rattle.player.specs.Promises.{Makes, Changes}
-use Rattle.player.specs.Readings.{readingOf}
 use Rattle.oracle.specs.declared.Reply.{Reply}
+use Rattle.oracle.specs.declared.values.Said.{Said}
 use Rattle.oracle.specs.Asked.{Asked, call}
-use Rattle.oracle.specs.Numbers.{callNumbers, numbers, stateAfter}
+use Rattle.oracle.specs.Numbers.{answerNumbers, callNumbers, numbers, stateAfter}
 use Rattle.oracle.specs.Output.{givenBy, make, givenFrom}
-use Rattle.oracle.specs.Promises.{givenOf, readingNumbers, replyOf, nowhere, Says, Replies, Begins}
+use Rattle.oracle.specs.Promises.{givenOf, replyOf, nowhere, Says, unchangedBy, Replies, Begins}
 
 -- what a reply to the call a says
 pub record Answers (p : Player) (a : Asked) (r : Reply) : Type 0 where
@@ -65,22 +59,9 @@ edit-answers w e end =
     record { long = refl; short = omega arith; numbers-are = e ∙ ap (λ n. n ∷ []) (sym (w .answer-is)); state-is = w .state-is; valid = w .valid }
 
 -- a call that touches no player
-pub says-answers : {l : List ℕ} {end : Place} {p : Player} {r : Reply} {a : Asked} → Says l end p r → numbers (stateOf p) a ≡ l
-    → stateAfter (stateOf p) a ≡ stateOf p → Valid p → Answers p a r
-says-answers w e e′ v =
-    record { long = w .long; short = w .short; numbers-are = e ∙ w .numbers-are; state-is = ap stateOf (w .player-is) ∙ sym e′; valid = rw (w .player-is) v }
-
--- reading the phase
-pub reading-numbers : (p : State) (t : TransportCodes) → callNumbers p (Calls.phase t) ≡ readingNumbers (readingOf p t)
-unfolding callNumbers readingOf
-reading-numbers p t = by-answer (answer p (Calls.phase t)) (eqb (answer p (Calls.phase t)) 0) refl (transportAt t)
-  where
-    by-answer : (n : ℕ) (b : Bool) → eqb n 0 ≡ b → (c : TransportCode)
-        → n ∷ cond b (byTransport [] c λ t. toBits binary32 (phaseOf p t) ∷ []) []
-        ≡ readingNumbers (cond b (byTransport (Reading.Refused n) c λ t. Reading.At (phaseOf p t)) (Reading.Refused n))
-    by-answer n true e (TransportCode.Known t) = rw (eqb-true n 0 e)
-    by-answer n true e TransportCode.Unknown = refl
-    by-answer n false e c = refl
+pub says-answers : {l : Answer} {s : Said} {p : Player} {a : Asked} → Says l s → numbers (stateOf p) a ≡ answerNumbers l
+    → stateAfter (stateOf p) a ≡ stateOf p → Valid p → (end : Place) → Answers p a (unchangedBy s end p)
+says-answers w e e′ v end = record { long = w .long; short = w .short; numbers-are = e ∙ w .numbers-are; state-is = sym e′; valid = v }
 
 -- where the phase is read the player stays
 pub phase-stays : (p : State) (t : TransportCodes) → step p (Calls.phase t) ≡ p

@@ -14,11 +14,11 @@ use Rattle.runs.specs.declared.fields.Place.{Place}
 use Rattle.runs.specs.Parser.{Parsed, read, onward, Reads}
 use Rattle.player.specs.declared.Player.{Player}
 use Rattle.player.specs.Player.{stateOf, Valid}
-use Rattle.replies.specs.Replies.{bytesOf, fits, Gives}
+use Rattle.replies.specs.Replies.{bytesOf, fits, fitting, Gives}
 use Rattle.oracle.specs.declared.Reply.{Reply}
 use Rattle.oracle.specs.declared.Turn.{Turn}
 use Rattle.oracle.specs.Asked.{Asked, asked}
-use Rattle.oracle.specs.Output.{given, givenBy, fitting, make, givenFrom, output, Runs}
+use Rattle.oracle.specs.Output.{given, givenBy, make, givenFrom, output, Runs}
 use Rattle.oracle.specs.Promises.{givenOf, replied, turnOf, Begins, Turns, Finishes}
 use Rattle.oracle.proofs.Fitting.{fitting-room, fitting-if, given-past}
 

@@ -1,8 +1,8 @@
 -- The output of a run. Assumes nothing.
-use Prim.Native.Nat.{ℕ, zero, suc, _+_}
+use Prim.Native.Nat.{ℕ, zero, suc}
 use mathlib.Core.Path.{_≡_}
 use mathlib.Core.Bool.{cond}
-use mathlib.Core.List.{List, [], _∷_, _++_}
+use mathlib.Core.List.{List, [], _∷_}
 use lib.Dec.{ltb}
 use lib.ListN.{length}
 use Rattle.listlaws.specs.Over.{over}
@@ -10,7 +10,7 @@ use Rattle.settings.specs.declared.record.SettingsCodes.{SettingsCodes}
 use Rattle.questions.specs.Questions.{firstNo, settingsQuestions}
 use Rattle.calls.specs.State.{State}
 use Rattle.calls.specs.Calls.{makes, made}
-use Rattle.replies.specs.Replies.{bytesOf, fits}
+use Rattle.replies.specs.Replies.{fitting}
 use Rattle.runs.specs.Parser.{Parsed, read, malformed, Parser, _then_, done}
 use Rattle.runs.specs.Fields.{number}
 use Rattle.runs.specs.Records.{settings}
@@ -40,12 +40,6 @@ make = settings then λ c. number then λ seed. done (c, seed)
 unfoldable pub givenFrom : List ℕ → Parsed (SettingsCodes × ℕ) → List (List ℕ)
 givenFrom run malformed = ill
 givenFrom run (read (c, seed) at) = (firstNo (settingsQuestions c) ∷ []) ∷ cond (makes c) (given (length run) (made c seed) run at) []
-
--- Their bytes from the place `at` of a buffer of `len` bytes on: "Where `out` has no room for what a call gives, nothing of that call is written and the output
--- ends there."
-unfoldable pub fitting : ℕ → ℕ → List (List ℕ) → List ℕ
-fitting len at [] = []
-fitting len at (l ∷ rest) = cond (fits len at (length (bytesOf l))) (bytesOf l ++ fitting len (at + length (bytesOf l)) rest) []
 
 unfoldable pub output : List ℕ → ℕ → List ℕ
 output run len = fitting len 0 (givenFrom run (make run 0))

@@ -5,20 +5,21 @@ use mathlib.Core.Bool.{true, false, cond}
 use mathlib.Core.List.{List, [], _∷_, _++_}
 use lib.Dec.{eqb}
 use lib.ListN.{length, take}
-use lib.Ieee.{binary32, toBits}
 use Rattle.listlaws.specs.Over.{over}
+use Rattle.questions.specs.Answers.{Answer}
 use Rattle.number.specs.declared.Writing.{Writing}
 use Rattle.number.specs.declared.Writing.the-variants.{Next, NoRoom}
 use Rattle.runs.specs.declared.fields.Place.{Place}
 use Rattle.runs.specs.Parser.{Parsed, read, Parser, onward}
 use Rattle.player.specs.declared.Player.{Player}
-use Rattle.player.specs.declared.Reading.{Reading}
-use Rattle.player.specs.declared.Reading.the-variants as Reading
 use Rattle.player.specs.Player.{stateOf, Valid}
+use Rattle.replies.specs.Replies.{fitting}
 use Rattle.oracle.specs.declared.Reply.{Reply}
 use Rattle.oracle.specs.declared.Turn.{Turn}
+use Rattle.oracle.specs.declared.values.Said.{Said}
 use Rattle.oracle.specs.Asked.{Asked}
-use Rattle.oracle.specs.Output.{given, givenBy, make, givenFrom, fitting}
+use Rattle.oracle.specs.Numbers.{answerNumbers}
+use Rattle.oracle.specs.Output.{given, givenBy, make, givenFrom}
 
 -- what a call as it was read gives, and those behind it
 abbrev pub givenOf : Player → List ℕ → Parsed Asked → ℕ → List (List ℕ)
@@ -32,17 +33,15 @@ howMany n = cond (eqb n 0) 2 1
 abbrev pub replyOf : ℕ → Place → Player → Reply
 replyOf n at p = record { numbers = n ∷ 0 ∷ 0 ∷ []; count = 1; next = at; player = p }
 
-abbrev pub readingNumbers : Reading → List ℕ
-readingNumbers (Reading.Refused n) = n ∷ []
-readingNumbers (Reading.At v) = 0 ∷ toBits binary32 v ∷ []
+-- the numbers of the answer a
+pub record Says (a : Answer) (s : Said) : Type 0 where
+  pub long : length (s .numbers) ≡ 3
+  pub short : s .count ≤ 3
+  pub numbers-are : answerNumbers a ≡ take (s .count) (s .numbers)
 
--- the numbers l, of a call that leaves the player p as it is
-pub record Says (l : List ℕ) (at : Place) (p : Player) (r : Reply) : Type 0 where
-  pub long : length (r .numbers) ≡ 3
-  pub short : r .count ≤ 3
-  pub numbers-are : l ≡ take (r .count) (r .numbers)
-  pub next-is : r .next ≡ at
-  pub player-is : r .player ≡ p
+-- the numbers s, where the run goes on, and the player p as it was
+abbrev pub unchangedBy : Said → Place → Player → Reply
+unchangedBy s at p = record { numbers = s .numbers; count = s .count; next = at; player = p }
 
 -- nothing more is read
 abbrev pub nowhere : Place

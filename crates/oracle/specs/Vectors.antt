@@ -11,13 +11,13 @@ use Rattle.settings.specs.Codes.{settingsKnown}
 use Rattle.questions.specs.Tests.{settingsFinite}
 use Rattle.questions.specs.Questions.{firstNo, settingsQuestions, busQuestions}
 use Rattle.calls.specs.Calls.{questions, answer}
-use Rattle.replies.specs.Replies.{bytesOf}
+use Rattle.replies.specs.Replies.{bytesOf, fitting}
 use Rattle.runs.specs.Parser.{after}
 use Rattle.runs.specs.Fields.{number, below, f32, numberIf, f32If}
 use Rattle.runs.specs.Records.{rate, span, smooth, settings}
 use Rattle.oracle.specs.Asked.{busCall, byTag, asked}
 use Rattle.oracle.specs.Numbers.{callNumbers, numbers}
-use Rattle.oracle.specs.Output.{givenBy, given, make, givenFrom, fitting, output}
+use Rattle.oracle.specs.Output.{givenBy, given, make, givenFrom, output}
 
 -- settings whose codes and numbers are all 0, and the seed 0
 zeros : List ℕ

@@ -1,7 +1,7 @@
 // The calls that set something: tags 0 to 3.
 use super::Reply;
+use super::writing::edited;
 use super::writing::malformed;
-use super::writing::reply;
 use super::writing::zeros;
 use player::Player;
 use runs::Place;
@@ -18,9 +18,7 @@ pub fn settings_reply(run: &[u8], from: Place, p: Player) -> Reply
     let next = c.next;
     if next.good {
         let codes = c.value;
-        let r = player::set_settings(p, codes);
-        let after = r.player;
-        return reply(r.answer as u64, next, after);
+        return edited(player::set_settings(p, codes), next);
     }
     malformed(p)
 }
@@ -37,9 +35,10 @@ pub fn shape_reply(run: &[u8], from: Place, p: Player) -> Reply
         let points = s.points;
         let loopback = s.loopback;
         let len = s.len;
-        let r = player::set_shape(p, points, s.count, loopback, &buffer[..len]);
-        let after = r.player;
-        return reply(r.answer as u64, next, after);
+        return edited(
+            player::set_shape(p, points, s.count, loopback, &buffer[..len]),
+            next,
+        );
     }
     malformed(p)
 }
@@ -55,9 +54,10 @@ pub fn path_reply(run: &[u8], from: Place, p: Player) -> Reply
     if next.good {
         let points = s.points;
         let len = s.len;
-        let r = player::set_path(p, points, s.count, s.closed, &buffer[..len]);
-        let after = r.player;
-        return reply(r.answer as u64, next, after);
+        return edited(
+            player::set_path(p, points, s.count, s.closed, &buffer[..len]),
+            next,
+        );
     }
     malformed(p)
 }
@@ -71,9 +71,7 @@ pub fn bus_reply(run: &[u8], from: Place, p: Player) -> Reply
     let value = runs::read_f32(run, bus.next);
     let next = value.next;
     if next.good {
-        let r = player::set_bus(p, bus.value, value.value);
-        let after = r.player;
-        return reply(r.answer as u64, next, after);
+        return edited(player::set_bus(p, bus.value, value.value), next);
     }
     malformed(p)
 }

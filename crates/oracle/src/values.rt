@@ -7,85 +7,75 @@ use player::Player;
 use player::Reading;
 use runs::Place;
 ghost use mathlib.Core.Path.{_≡_};
+ghost use Rattle.evaluate.specs.Values.{valueAnswer, placeAnswer};
 ghost use Rattle.player.specs.Player.{Valid};
+ghost use Rattle.player.specs.Readings.{readingAnswer};
 ghost use Rattle.oracle.specs.Asked.{phaseCall, shapeAtCall, pathAtCall};
-ghost use Rattle.oracle.specs.Numbers.{valueNumbers, placeNumbers};
-ghost use Rattle.oracle.specs.Promises.{readingNumbers, Says, RepliesTo};
+ghost use Rattle.oracle.specs.Promises.{unchangedBy, Says, RepliesTo};
+
+// The first `count` of the numbers.
+pub struct Said {
+    pub numbers: [u64; 3],
+    pub count: usize,
+}
+
+// The reply of a call that leaves the player as it is.
+fn unchanged(s: Said, next: Place, p: Player) -> Reply
+    ensures { λ r. ⌜ r ≡ unchangedBy s next p ⌝ }
+{
+    let numbers = s.numbers;
+    Reply {
+        numbers,
+        count: s.count,
+        next,
+        player: p,
+    }
+}
 
 // The answer's number, and where it is 0 the value's bits.
-fn value_says(v: Value, next: Place, p: Player) -> Reply
-    ensures { λ r. ⌜ Says (valueNumbers v) next p r ⌝ }
+fn value_says(v: Value) -> Said
+    ensures { λ r. ⌜ Says (valueAnswer v) r ⌝ }
 {
     match v {
         Value::Refused(n) => {
             let numbers = [n as u64, 0, 0];
-            Reply {
-                numbers,
-                count: 1,
-                next,
-                player: p,
-            }
+            Said { numbers, count: 1 }
         }
         Value::At(y) => {
             let numbers = [0, replies::bits(y), 0];
-            Reply {
-                numbers,
-                count: 2,
-                next,
-                player: p,
-            }
+            Said { numbers, count: 2 }
         }
     }
 }
 
 // The answer's number, and where it is 0 the bits of X and of Y.
-fn place_says(v: evaluate::Place, next: Place, p: Player) -> Reply
-    ensures { λ r. ⌜ Says (placeNumbers v) next p r ⌝ }
+fn place_says(v: evaluate::Place) -> Said
+    ensures { λ r. ⌜ Says (placeAnswer v) r ⌝ }
 {
     match v {
         evaluate::Place::Refused(n) => {
             let numbers = [n as u64, 0, 0];
-            Reply {
-                numbers,
-                count: 1,
-                next,
-                player: p,
-            }
+            Said { numbers, count: 1 }
         }
         evaluate::Place::At { x, y } => {
             let numbers = [0, replies::bits(x), replies::bits(y)];
-            Reply {
-                numbers,
-                count: 3,
-                next,
-                player: p,
-            }
+            Said { numbers, count: 3 }
         }
     }
 }
 
 // The answer's number, and where it is 0 the phase's bits.
-fn reading_says(v: Reading, next: Place, p: Player) -> Reply
-    ensures { λ r. ⌜ Says (readingNumbers v) next p r ⌝ }
+fn reading_says(v: Reading) -> Said
+    ensures { λ r. ⌜ Says (readingAnswer v) r ⌝ }
 {
     match v {
         Reading::Refused(n) => {
             let numbers = [n as u64, 0, 0];
-            Reply {
-                numbers,
-                count: 1,
-                next,
-                player: p,
-            }
+            Said { numbers, count: 1 }
         }
         Reading::At(y) => {
             let numbers = [0, replies::bits(y), 0];
-            Reply {
-                numbers,
-                count: 2,
-                next,
-                player: p,
-            }
+            Said { numbers, count: 2 }
         }
     }
 }
@@ -100,7 +90,7 @@ pub fn phase_reply(run: &[u8], from: Place, p: Player) -> Reply
     if next.good {
         let codes = t.value;
         let v = player::phase(p, codes);
-        return reading_says(v, next, p);
+        return unchanged(reading_says(v), next, p);
     }
     malformed(p)
 }
@@ -119,7 +109,7 @@ pub fn shape_at_reply(run: &[u8], from: Place, p: Player) -> Reply
         let loopback = s.loopback;
         let len = s.len;
         let v = evaluate::evaluate_shape(points, s.count, loopback, &buffer[..len], x.value);
-        return value_says(v, next, p);
+        return unchanged(value_says(v), next, p);
     }
     malformed(p)
 }
@@ -137,7 +127,7 @@ pub fn path_at_reply(run: &[u8], from: Place, p: Player) -> Reply
         let points = s.points;
         let len = s.len;
         let v = evaluate::evaluate_path(points, s.count, s.closed, &buffer[..len], t.value);
-        return place_says(v, next, p);
+        return unchanged(place_says(v), next, p);
     }
     malformed(p)
 }

@@ -2,6 +2,7 @@
 use super::Reply;
 use super::Turn;
 use number::Writing;
+use player::Changed;
 use player::Player;
 use runs::Place;
 ghost use mathlib.Core.Path.{_≡_};
@@ -32,6 +33,14 @@ pub fn reply(n: u64, next: Place, p: Player) -> Reply
         next,
         player: p,
     }
+}
+
+// The number of a call that sets something, and the player after it.
+pub fn edited(r: Changed, next: Place) -> Reply
+    ensures { λ s. ⌜ s ≡ replyOf (r .answer) next (r .player) ⌝ }
+{
+    let after = r.player;
+    reply(r.answer as u64, next, after)
 }
 
 // "Where the bytes of a call are malformed, the output ends with the number 255".

@@ -3,5 +3,4 @@ pub mod Players
 pub mod Makings
 pub mod Sets
 pub mod Blocks
-pub mod Contracts
 pub mod Readings

@@ -13,8 +13,8 @@ use lib.Ieee.Scale.{finite}
 use Rattle.floatlaws.specs.Numbers.{f32-0}
 use Rattle.points.specs.Modulation.{FiniteBuses}
 use Rattle.points.proofs.Offsets.{moved-number}
-use Rattle.shape.specs.Shapes.{defaultShape}
-use Rattle.shape.proofs.Modulation.{NumbersX, modulated-ascends}
+use Rattle.shape.specs.Shapes.{defaultShape, NumbersX}
+use Rattle.shape.proofs.Modulation.{modulated-ascends}
 use Rattle.path.specs.Paths.{defaultPath}
 use Rattle.settings.specs.declared.choices.LfoType.{LfoType}
 use Rattle.settings.specs.declared.choices.LfoType.the-variants as LfoType
@@ -24,9 +24,9 @@ use Rattle.voice.specs.Curve.{Searchable}
 use Rattle.voice.specs.declared.begun.MadeFor.the-variants as MadeFor
 use Rattle.slot.specs.declared.Lfo.{Lfo}
 use Rattle.slot.specs.declared.Slot.{Slot}
-use Rattle.slot.specs.Moved.{listsOf, curveOf}
+use Rattle.slot.specs.Moved.{listsOf, curveOf, PathUp}
 use Rattle.slot.specs.Slot.{newLfo, newSlot, clockedLfo}
-use Rattle.slot.proofs.Curves.{PathUp, searchable-by, loop-by, default-lengths, new-searchable}
+use Rattle.slot.proofs.Curves.{searchable-by, loop-by, default-lengths, new-searchable}
 use Rattle.slot.proofs.Slots.{new-in, stored-in}
 use Rattle.player.specs.declared.Player.{Player}
 use Rattle.player.specs.Player.{editedPlayer, StoredIn, ShapeIn, BusesIn, LfoIn, Valid}

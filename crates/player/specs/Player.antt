@@ -7,14 +7,13 @@ use lib.ListN.{length}
 use lib.Ieee.{Float}
 use Rattle.points.specs.Modulation.{FiniteBuses}
 use Rattle.shape.specs.declared.Shape.{Shape}
-use Rattle.shape.proofs.Modulation.{NumbersX}
+use Rattle.shape.specs.Shapes.{NumbersX}
 use Rattle.path.specs.declared.Path.{Path}
 use Rattle.settings.specs.declared.record.Settings.{Settings}
 use Rattle.reach.specs.Bounds.{SettingsIn}
 use Rattle.slot.specs.declared.Lfo.{Lfo}
-use Rattle.slot.specs.Moved.{LoopbackIn}
+use Rattle.slot.specs.Moved.{LoopbackIn, PathUp}
 use Rattle.slot.specs.Slot.{SlotIn}
-use Rattle.slot.proofs.Curves.{PathUp}
 use Rattle.calls.specs.State.{State}
 use Rattle.player.specs.declared.Player.{Player}
 

@@ -1,21 +1,19 @@
 -- Reading the phase. Assumes nothing.
-use Prim.Native.Nat.{ℕ}
-use mathlib.Core.Bool.{cond}
+use mathlib.Core.List.{[], _∷_}
 use Rattle.settings.specs.declared.record.TransportCodes.{TransportCodes}
 use Rattle.settings.specs.Codes.{transportAt}
+use Rattle.questions.specs.Answers.{Answer, refusal, success, answerWith}
 use Rattle.calls.specs.State.{State}
 use Rattle.calls.specs.Blocks.{phaseOf}
-use Rattle.calls.specs.Calls.{phase, answer, accepts, byTransport}
+use Rattle.calls.specs.Calls.{phase, answer, byTransport}
 use Rattle.player.specs.declared.Reading.{Reading}
 use Rattle.player.specs.declared.Reading.the-variants as Reading
 
--- document 01's number of an answer
-unfoldable pub readingNumber : Reading → ℕ
-readingNumber (Reading.Refused n) = n
-readingNumber (Reading.At x) = 0
+-- the number and the value of each case
+unfoldable pub readingAnswer : Reading → Answer
+readingAnswer (Reading.Refused n) = refusal n
+readingAnswer (Reading.At x) = success (x ∷ [])
 
--- the number of the question that refuses it, or the phase
-unfoldable pub readingOf : State → TransportCodes → Reading
-readingOf p c =
-    let refusal = Reading.Refused (answer p (phase c)) in
-    cond (accepts p (phase c)) (byTransport refusal (transportAt c) λ t. Reading.At (phaseOf p t)) refusal
+-- the number of the question that refuses it, or 0 and the phase
+unfoldable pub phaseAnswer : State → TransportCodes → Answer
+phaseAnswer p c = answerWith (answer p (phase c)) (byTransport [] (transportAt c) λ t. phaseOf p t ∷ [])

@@ -6,11 +6,11 @@ use settings::TransportCode;
 use settings::TransportCodes;
 ghost use mathlib.Core.Path.{_≡_};
 ghost use Rattle.player.specs.Player.{stateOf};
-ghost use Rattle.player.specs.Readings.{readingOf};
+ghost use Rattle.player.specs.Readings.{readingAnswer, phaseAnswer};
 
 // Where the voice is in its cycle, 0 up to 1, at the next sample to play; `t` is the transport at that sample. No player changes.
 pub fn phase(p: Player, t: TransportCodes) -> Reading
-    ensures { λ r. ⌜ r ≡ readingOf (stateOf p) t ⌝ }
+    ensures { λ r. ⌜ readingAnswer r ≡ phaseAnswer (stateOf p) t ⌝ }
 {
     let answer = questions::phase_answer(t);
     if answer != 0 {

@@ -2,7 +2,7 @@
 use Prim.Native.Nat.{ℕ, zero, suc, _+_, _-_, _^_, _≤_, _<_, min}
 use mathlib.Core.Path.{_≡_, refl, sym, subst}
 use mathlib.Core.Logic.{inl, inr}
-use mathlib.Core.Bool.{Bool, true, false, cond}
+use mathlib.Core.Bool.{Bool, true, false, not, cond}
 use mathlib.Core.List.{List, _∷_}
 use native.Mathlib.Nat.{eq-or-lt-of-le, le-of-suc-le-suc, min-le-right}
 use native.Mathlib.Omega.{arith}
@@ -10,12 +10,13 @@ use borrow.Author.Tests.{ltb-true, leb-true, eqb-true, eq-eqb}
 use lib.Dec.{T, eqb, ltb, leb}
 use lib.ListN.{length, getD, List·getD-append}
 use lib.IntN.{pos}
-use lib.Ieee.{Float, nan, fin, ofBits, neg, le}
+use lib.Ieee.{Float, nan, fin, ofBits, neg, le, isNan}
 use lib.Ieee.Scale.{finite}
 use Rattle.floatlaws.specs.Numbers.{Between, f32-0, f32-2, f64-0, f64-¼}
 use Rattle.floatlaws.proofs.NoNan.{finite-number}
 use Rattle.floatlaws.proofs.Order.{le-trans-at}
-use Rattle.floatlaws.proofs.Size.{Size, size-of-le, size-of-range}
+use Rattle.floatlaws.specs.Size.{Size}
+use Rattle.floatlaws.proofs.Size.{size-of-le, size-of-range}
 use Rattle.floatlaws.proofs.Tests.{yes-so}
 use Rattle.floatlaws.proofs.Unit.{zero-float}
 use Rattle.listlaws.specs.Tables.{padded}
@@ -26,39 +27,23 @@ use Rattle.shape.specs.declared.Loopback.the-variants as Loopback
 use Rattle.shape.specs.Points.{blank, noPoint, FinitePoint}
 use Rattle.shape.specs.Shapes.{within}
 use Rattle.path_segments.specs.Times.{segmentsOf, Legs}
-use Rattle.settings.specs.Choices.{lfoTypeAt, modeAt, directionAt, feelAt, yesNoAt}
+use Rattle.settings.specs.Choices.{feelAt, yesNoAt}
 use Rattle.settings.specs.Divisions.{divisionAt}
-use Rattle.settings.specs.Times.{rates, syncedRate, hzRate, rateAt, spanAt, scales, scaleAt}
-use Rattle.settings.specs.Codes.{smoothAt, withSpans, withSwitches, settingsAt, transportAt, withKind, withMode, withDirection, withYesNo, withRate, withSpan, withScale, withSmooth, settingsKnown, transportKnown}
-use Rattle.settings.specs.declared.choices.LfoType.{LfoType}
-use Rattle.settings.specs.declared.choices.LfoTypeCode.{LfoTypeCode}
-use Rattle.settings.specs.declared.choices.LfoTypeCode.the-variants as LfoTypeCode
-use Rattle.settings.specs.declared.choices.Mode.{Mode}
-use Rattle.settings.specs.declared.choices.ModeCode.{ModeCode}
-use Rattle.settings.specs.declared.choices.ModeCode.the-variants as ModeCode
-use Rattle.settings.specs.declared.choices.Direction.{Direction}
-use Rattle.settings.specs.declared.choices.DirectionCode.{DirectionCode}
-use Rattle.settings.specs.declared.choices.DirectionCode.the-variants as DirectionCode
+use Rattle.settings.specs.Times.{rates, syncedRate, hzRate, rateAt, scales, scaleAt}
+use Rattle.settings.specs.Codes.{settingsAt, transportAt, settingsKnown, transportKnown}
+use Rattle.settings.proofs.Read.{settings-read, transport-read}
 use Rattle.settings.specs.declared.choices.FeelCode.{FeelCode}
 use Rattle.settings.specs.declared.choices.FeelCode.the-variants as FeelCode
 use Rattle.settings.specs.declared.choices.YesNo.{YesNo}
 use Rattle.settings.specs.declared.choices.YesNo.the-variants as YesNo
 use Rattle.settings.specs.declared.division.DivisionCode.{DivisionCode}
 use Rattle.settings.specs.declared.division.DivisionCode.the-variants as DivisionCode
-use Rattle.settings.specs.declared.times.Rate.{Rate}
 use Rattle.settings.specs.declared.times.RateCodes.{RateCodes}
 use Rattle.settings.specs.declared.times.RateCode.{RateCode}
 use Rattle.settings.specs.declared.times.RateCode.the-variants as RateCode
-use Rattle.settings.specs.declared.times.Span.{Span}
-use Rattle.settings.specs.declared.times.SpanCode.{SpanCode}
-use Rattle.settings.specs.declared.times.SpanCode.the-variants as SpanCode
-use Rattle.settings.specs.declared.times.Scale.{Scale}
 use Rattle.settings.specs.declared.times.ScaleCodes.{ScaleCodes}
 use Rattle.settings.specs.declared.times.ScaleCode.{ScaleCode}
 use Rattle.settings.specs.declared.times.ScaleCode.the-variants as ScaleCode
-use Rattle.settings.specs.declared.record.Smooth.{Smooth}
-use Rattle.settings.specs.declared.record.SmoothCode.{SmoothCode}
-use Rattle.settings.specs.declared.record.SmoothCode.the-variants as SmoothCode
 use Rattle.settings.specs.declared.record.Settings.{Settings}
 use Rattle.settings.specs.declared.record.SettingsCodes.{SettingsCodes}
 use Rattle.settings.specs.declared.record.SettingsCode.{SettingsCode}
@@ -123,48 +108,6 @@ abbrev KnownScale : ScaleCode → Type 0
 KnownScale (ScaleCode.Known s) = PercentNumber s
 KnownScale ScaleCode.Unknown = Unit
 
-abbrev KnownSettings : SettingsCode → Type 0
-KnownSettings (SettingsCode.Known s) = s .«grid_x» < 2 ^ 16 → SettingsIn s
-KnownSettings SettingsCode.Unknown = Unit
-
-abbrev KnownTransport : TransportCode → Type 0
-KnownTransport (TransportCode.Known t) = TransportIn t
-KnownTransport TransportCode.Unknown = Unit
-
--- what holds of each known choice, and of the answer where one is not known, holds of the answer
-module _ {A : Type 0} (P : A → Type 0) {u : A} (unknown : P u) where
-  with-kind : (x : LfoTypeCode) {f : LfoType → A} → ((k : LfoType) → P (f k)) → P (withKind u x f)
-  with-kind (LfoTypeCode.Known k) h = h k
-  with-kind LfoTypeCode.Unknown h = unknown
-
-  with-mode : (x : ModeCode) {f : Mode → A} → ((k : Mode) → P (f k)) → P (withMode u x f)
-  with-mode (ModeCode.Known k) h = h k
-  with-mode ModeCode.Unknown h = unknown
-
-  with-direction : (x : DirectionCode) {f : Direction → A} → ((k : Direction) → P (f k)) → P (withDirection u x f)
-  with-direction (DirectionCode.Known k) h = h k
-  with-direction DirectionCode.Unknown h = unknown
-
-  with-yes-no : (x : YesNo) {f : Bool → A} → ((k : Bool) → P (f k)) → P (withYesNo u x f)
-  with-yes-no (YesNo.Known k) h = h k
-  with-yes-no YesNo.Unknown h = unknown
-
-  with-span : (x : SpanCode) {f : Span → A} → ((k : Span) → P (f k)) → P (withSpan u x f)
-  with-span (SpanCode.Known k) h = h k
-  with-span SpanCode.Unknown h = unknown
-
-  with-smooth : (x : SmoothCode) {f : Smooth → A} → ((k : Smooth) → P (f k)) → P (withSmooth u x f)
-  with-smooth (SmoothCode.Known k) h = h k
-  with-smooth SmoothCode.Unknown h = unknown
-
-  with-rate : (x : RateCode) {f : Rate → A} → KnownRate x → ((k : Rate) → RateNumber k → P (f k)) → P (withRate u x f)
-  with-rate (RateCode.Known k) n h = h k n
-  with-rate RateCode.Unknown n h = unknown
-
-  with-scale : (x : ScaleCode) {f : Scale → A} → KnownScale x → ((k : Scale) → PercentNumber k → P (f k)) → P (withScale u x f)
-  with-scale (ScaleCode.Known k) n h = h k n
-  with-scale ScaleCode.Unknown n h = unknown
-
 synced-number : (d : DivisionCode) (f : FeelCode) → KnownRate (syncedRate d f)
 synced-number (DivisionCode.Known d) (FeelCode.Known f) = tt
 synced-number (DivisionCode.Known d) FeelCode.Unknown = tt
@@ -183,25 +126,19 @@ rate-number c = at (c .code)
     at (suc zero) h = hz-number (c .hz) (yesNoAt (c .x10)) (yes-so h)
     at (suc (suc k)) h = tt
 
-known-settings : (c : SettingsCodes) → settingsFinite c ≡ true → KnownSettings (settingsAt c)
-unfolding settingsFinite settingsAt withSwitches withSpans
-known-settings c h =
+-- no number of known settings whose floats are finite is a NaN
+pub settings-numbers : (c : SettingsCodes) (s : Settings) → settingsFinite c ≡ true → settingsAt c ≡ SettingsCode.Known s → RateNumber (s .rate) × T (not (isNan (s .phase)))
+unfolding settingsFinite
+settings-numbers c s h e =
     let all = five (rateFinite (c .rate)) (spanFinite (c .«fade_in»)) (spanFinite (c .delay)) (smoothFinite (c .smooth)) (finite (c .phase)) h in
-    with-kind KnownSettings tt (lfoTypeAt (c .kind)) λ kind.
-    with-mode KnownSettings tt (modeAt (c .mode)) λ mode.
-    with-direction KnownSettings tt (directionAt (c .direction)) λ direction.
-    with-rate KnownSettings tt (rateAt (c .rate)) (rate-number (c .rate) (all .0)) λ rate number.
-    with-yes-no KnownSettings tt (yesNoAt (c .«song_lock»)) λ lock.
-    with-yes-no KnownSettings tt (yesNoAt (c .swing)) λ swing.
-    with-yes-no KnownSettings tt (yesNoAt (c .«phase_snap»)) λ snap.
-    with-span KnownSettings tt (spanAt (c .«fade_in»)) λ fade.
-    with-span KnownSettings tt (spanAt (c .delay)) λ delay.
-    with-smooth KnownSettings tt (smoothAt (c .smooth)) λ smooth grid.
-    record { rate-number = number; phase-number = finite-number (c .phase) (yes-so (all .4)); grid-in = grid }
+    let r = settings-read c s e in
+    (subst KnownRate (r .rate) (rate-number (c .rate) (all .0)), rw (r .phase) (finite-number (c .phase) (yes-so (all .4))))
 
 pub settings-in : (c : SettingsCodes) → firstNo (settingsQuestions c) ≡ 0
     → (s : Settings) → settingsAt c ≡ SettingsCode.Known s → s .«grid_x» < 2 ^ 16 → SettingsIn s
-settings-in c h s e = subst KnownSettings e (known-settings c (settings-accepted c h .finite-all))
+settings-in c h s e g =
+    let n = settings-numbers c s (settings-accepted c h .finite-all) e in
+    record { rate-number = n .0; phase-number = n .1; grid-in = g }
 
 -- ---- a transport
 
@@ -229,34 +166,30 @@ song-size x h =
     let top = fin false 1 (pos 31) in
     size-of-range f64-minus2147483648 top (2 ^ 31) (refl, refl) (refl, refl) (b .0) (le-trans-at x f64-2147483647 top (b .1) (unfold le in tt))
 
-known-transport : (c : TransportCodes) → transportFinite c ≡ true → transportIn c ≡ true → KnownTransport (transportAt c)
-unfolding transportFinite transportIn transportAt
-known-transport c h i =
-    let all =
-    seven (finite (c .«sample_rate»)) (finite (c .tempo)) (finite (c .«beats_per_bar»)) (finite (c .beats)) (finite (c .seconds)) (finite (c .swing))
-    (finite (c .scale .percent)) h in
-    let limits =
-    five (between f64-1000 (c .«sample_rate») f64-768000) (between f64-0 (c .tempo) f64-1000) (between f64-¼ (c .«beats_per_bar») f64-64)
-    (between f64-minus2147483648 (c .beats) f64-2147483647) (between f64-minus2147483648 (c .seconds) f64-2147483647) i in
-    with-yes-no KnownTransport tt (yesNoAt (c .playing)) λ playing.
-    with-scale KnownTransport tt (scaleAt (c .scale)) (percent-number (c .scale) (yes-so (all .6))) λ scale number.
-    record {
-      rate-finite = yes-so (all .0);
-      tempo-in = tempo-size (c .tempo) (limits .1);
-      bar-in = bar-size (c .«beats_per_bar») (limits .2);
-      beats-at = song-size (c .beats) (limits .3);
-      seconds-at = song-size (c .seconds) (limits .4);
-      swing-number = finite-number (c .swing) (yes-so (all .5));
-      percent-number = number;
-    }
-
 pub record TransportAccepted (c : TransportCodes) : Type 0 where
   pub known : transportKnown c ≡ true
   pub finite-all : transportFinite c ≡ true
   pub in-range : transportIn c ≡ true
 
 pub transport-in : (c : TransportCodes) → TransportAccepted c → (t : Transport) → transportAt c ≡ TransportCode.Known t → TransportIn t
-transport-in c a t e = subst KnownTransport e (known-transport c (a .finite-all) (a .in-range))
+unfolding transportFinite transportIn
+transport-in c a t e =
+    let all =
+    seven (finite (c .«sample_rate»)) (finite (c .tempo)) (finite (c .«beats_per_bar»)) (finite (c .beats)) (finite (c .seconds)) (finite (c .swing))
+    (finite (c .scale .percent)) (a .finite-all) in
+    let limits =
+    five (between f64-1000 (c .«sample_rate») f64-768000) (between f64-0 (c .tempo) f64-1000) (between f64-¼ (c .«beats_per_bar») f64-64)
+    (between f64-minus2147483648 (c .beats) f64-2147483647) (between f64-minus2147483648 (c .seconds) f64-2147483647) (a .in-range) in
+    let r = transport-read c t e in
+    record {
+      rate-finite = rw (r .rate) (yes-so (all .0));
+      tempo-in = rw (r .tempo) (tempo-size (c .tempo) (limits .1));
+      bar-in = rw (r .bar) (bar-size (c .«beats_per_bar») (limits .2));
+      beats-at = rw (r .beats) (song-size (c .beats) (limits .3));
+      seconds-at = rw (r .seconds) (song-size (c .seconds) (limits .4));
+      swing-number = rw (r .swing) (finite-number (c .swing) (yes-so (all .5)));
+      percent-number = subst KnownScale (r .scale) (percent-number (c .scale) (yes-so (all .6)));
+    }
 
 pub phase-accepted : (c : TransportCodes) → firstNo (phaseQuestions c) ≡ 0 → TransportAccepted c
 unfolding phaseQuestions

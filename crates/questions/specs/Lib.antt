@@ -1,4 +1,5 @@
 pub mod Limits
 pub mod Tests
 pub mod Questions
+pub mod Answers
 pub mod Vectors

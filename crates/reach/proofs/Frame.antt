@@ -16,7 +16,8 @@ use Rattle.floatlaws.specs.Narrow.{narrowed}
 use Rattle.floatlaws.proofs.Euclid.{euclid-within}
 use Rattle.floatlaws.proofs.NoNan.{finite-number}
 use Rattle.floatlaws.proofs.Unit.{one-float, unit-finite}
-use Rattle.floatlaws.proofs.Size.{Sized, Size, size-finite, size-more, add-size}
+use Rattle.floatlaws.specs.Size.{Sized, Size}
+use Rattle.floatlaws.proofs.Size.{size-finite, size-more, add-size}
 use Rattle.settings.specs.declared.choices.Mode.{Mode}
 use Rattle.settings.specs.declared.choices.Mode.the-variants.{Free, Restart, OneShot}
 use Rattle.settings.specs.declared.choices.Direction.{Direction}

@@ -19,7 +19,8 @@ use Rattle.floatlaws.specs.Numbers.{f64-1}
 use Rattle.clock.specs.Pace.{limitOf}
 use Rattle.floatlaws.proofs.NoNan.{finite-number}
 use Rattle.floatlaws.proofs.Unit.{zero-float, half-float, one-float, closest-half}
-use Rattle.floatlaws.proofs.Size.{div-is, Sized, sized-finite, round-sized, Size, mul-size, size-of-le}
+use Rattle.floatlaws.specs.Size.{Sized, Size}
+use Rattle.floatlaws.proofs.Size.{div-is, sized-finite, round-sized, mul-size, size-of-le}
 
 -- ---- rounding at most doubles
 

@@ -41,7 +41,8 @@ use Rattle.clock.specs.declared.pace.Tempo.{Tempo}
 use Rattle.clock.specs.declared.free.Clock.{Clock}
 use Rattle.floatlaws.proofs.NoNan.{finite-number}
 use Rattle.floatlaws.proofs.Unit.{zero-float}
-use Rattle.floatlaws.proofs.Size.{Sized, Least, Size, AtLeast, size-finite, size-more, mul-size, div-size, count-size, round-sized}
+use Rattle.floatlaws.specs.Size.{Sized, Least, Size, AtLeast}
+use Rattle.floatlaws.proofs.Size.{size-finite, size-more, mul-size, div-size, count-size, round-sized}
 use Rattle.floatlaws.proofs.Sign.{NonNeg, nonneg-le, nonneg-of-le, mul-nonneg, div-nonneg, at-least-of, mul-at-least, clamp-nonneg, clamp-size}
 use Rattle.reach.proofs.Limit.{limit-in}
 use Rattle.reach.specs.Bounds.{RateNumber, SettingsIn, PercentNumber, TransportIn, LockIn, BlockIn}

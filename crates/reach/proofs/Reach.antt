@@ -25,7 +25,8 @@ use Rattle.clock.specs.declared.pace.Tempo.{Tempo}
 use Rattle.clock.specs.declared.anchor.Anchor.{Anchor}
 use Rattle.clock.specs.declared.anchor.Anchor.the-variants.{Samples, Beats, Seconds}
 use Rattle.reach.specs.Bounds.{LockIn, BlockIn, AnchorIn, FreeIn, ClockIn}
-use Rattle.floatlaws.proofs.Size.{Size, AtLeast, size-more, add-size, sub-size, mul-size, div-size, count-size}
+use Rattle.floatlaws.specs.Size.{Size, AtLeast}
+use Rattle.floatlaws.proofs.Size.{size-more, add-size, sub-size, mul-size, div-size, count-size}
 
 -- ---- anchors
 

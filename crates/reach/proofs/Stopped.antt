@@ -20,7 +20,8 @@ use Rattle.settings.specs.declared.division.Division.{Division}
 use Rattle.settings.specs.declared.times.Span.the-variants as Span
 use Rattle.clock.specs.Spans.{lengthOf, spanLength, samplesOf}
 use Rattle.clock.specs.declared.block.Block.{Block}
-use Rattle.floatlaws.proofs.Size.{Least, Size, AtLeast, div-is}
+use Rattle.floatlaws.specs.Size.{Least, Size, AtLeast}
+use Rattle.floatlaws.proofs.Size.{div-is}
 use Rattle.reach.proofs.Prepared.{beats-in}
 
 abbrev large : Float

@@ -21,7 +21,8 @@ use Rattle.position.specs.declared.swing.Swing.the-variants.{Off, First}
 use Rattle.clock.specs.declared.pace.Cycles.{Cycles}
 use Rattle.clock.specs.declared.pace.Cycles.the-variants.{PerBeat, PerSecond}
 use Rattle.floatlaws.proofs.Unit.{zero-float, half-float, one-float, two-float}
-use Rattle.floatlaws.proofs.Size.{Sized, Size, AtLeast, size-finite, size-more, add-size, sub-size, mul-size, div-size, size-of-le, round-sized}
+use Rattle.floatlaws.specs.Size.{Sized, Size, AtLeast}
+use Rattle.floatlaws.proofs.Size.{size-finite, size-more, add-size, sub-size, mul-size, div-size, size-of-le, round-sized}
 use Rattle.floatlaws.proofs.Sign.{NonNeg, nonneg-le, mul-nonneg, at-least-of, clamp-nonneg, clamp-size}
 use Rattle.reach.specs.Bounds.{ShareIn, SwingIn}
 

@@ -18,7 +18,7 @@ use lib.Ieee.{Float, fin, binary64, fits, isNan}
 use lib.Ieee.Scale.{finite}
 use Rattle.floatlaws.specs.Numbers.{Between}
 use Rattle.floatlaws.specs.Whole.{InUnit}
-use Rattle.floatlaws.proofs.Size.{Size, AtLeast}
+use Rattle.floatlaws.specs.Size.{Size, AtLeast}
 use Rattle.settings.specs.declared.times.Rate.{Rate}
 use Rattle.settings.specs.declared.times.Rate.the-variants.{Synced, Hz}
 use Rattle.settings.specs.declared.times.Scale.{Scale}

@@ -28,6 +28,12 @@ listed l x y = l ++ bitsOf x ++ bitsOf y
 abbrev pub fits : ℕ → ℕ → ℕ → Bool
 fits len at count = leb (at + count) len
 
+-- The bytes of what the calls give, from the place `at` of a buffer of `len` bytes on: "Where `out` has no room for what a call gives, nothing of that call is
+-- written and the output ends there."
+unfoldable pub fitting : ℕ → ℕ → List (List ℕ) → List ℕ
+fitting len at [] = []
+fitting len at (l ∷ rest) = cond (fits len at (length (bytesOf l))) (bytesOf l ++ fitting len (at + length (bytesOf l)) rest) []
+
 -- writing the numbers l at the place `at` of x answers r and leaves y
 pub record Gives (x : List ℕ) (at : ℕ) (l : List ℕ) (r : Writing) (y : List ℕ) : Type 0 where
   pub answer : r ≡ cond (fits (length x) at (length (bytesOf l))) (Next (at + length (bytesOf l))) NoRoom

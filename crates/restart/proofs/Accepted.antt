@@ -1,10 +1,9 @@
 -- The transport of an accepted block: the one that its codes stand for, in range. Assumes nothing.
 use Prim.Native.Nat.{ℕ, zero, suc}
-use mathlib.Core.Path.{_≡_, refl, sym, ap, _∙_, subst}
+use mathlib.Core.Path.{_≡_, refl, sym, ap, _∙_}
 use mathlib.Core.Bool.{Bool}
 use mathlib.Core.List.{List}
 use native.Mathlib.Omega.{arith}
-use lib.Dec.{T}
 use lib.Ieee.{Float}
 use lib.ListN.{length}
 use Rattle.floatlaws.proofs.Tests.{yes-so}
@@ -19,8 +18,8 @@ use Rattle.settings.specs.declared.record.TransportCode.{TransportCode}
 use Rattle.settings.specs.declared.record.TransportCode.the-variants as TransportCode
 use Rattle.settings.specs.Choices.{yesNoAt}
 use Rattle.settings.specs.Times.{scaleAt}
-use Rattle.settings.specs.Codes.{transportAt, withYesNo, withScale, transportKnown, isTransport}
-use Rattle.settings.proofs.Known.{transport-known}
+use Rattle.settings.specs.Codes.{transportAt}
+use Rattle.settings.proofs.Read.{TransportRead, transport-read, transport-of}
 use Rattle.reach.specs.Bounds.{TransportIn}
 use Rattle.questions.specs.declared.RestartCodes.{RestartCodes}
 use Rattle.questions.proofs.Facts.{transport-in, block-accepted}
@@ -30,49 +29,11 @@ use Rattle.calls.specs.Calls.{block, questions, answer}
 use Rattle.restart.specs.Rule.{rateOf}
 use Rattle.restart.proofs.Constants.{paceOf}
 
--- the transport that known codes stand for
-pub record Reads (c : TransportCodes) (t : Transport) : Type 0 where
-  pub is : transportAt c ≡ TransportCode.Known t
-  pub rate : t .«sample_rate» ≡ c .«sample_rate»
-  pub tempo : t .tempo ≡ c .tempo
-  pub bar : t .«beats_per_bar» ≡ c .«beats_per_bar»
-  pub beats : t .beats ≡ c .beats
-  pub seconds : t .seconds ≡ c .seconds
-  pub swing : t .swing ≡ c .swing
-  pub scale : scaleAt (c .scale) ≡ ScaleCode.Known (t .scale)
-  pub playing : yesNoAt (c .playing) ≡ YesNo.Known (t .playing)
-
-abbrev transportBy : TransportCodes → Bool → Scale → Transport
-transportBy c playing scale =
-    record {
-      «sample_rate» = c .«sample_rate»;
-      tempo = c .tempo;
-      «beats_per_bar» = c .«beats_per_bar»;
-      playing = playing;
-      beats = c .beats;
-      seconds = c .seconds;
-      swing = c .swing;
-      scale = scale;
-    }
-
-abbrev codeBy : TransportCodes → YesNo → ScaleCode → TransportCode
-codeBy c y z = withYesNo TransportCode.Unknown y λ playing. withScale TransportCode.Unknown z λ scale. TransportCode.Known (transportBy c playing scale)
-
-pub reads : (c : TransportCodes) → T (transportKnown c) → (t : Transport) × Reads c t
-unfolding transportAt
-reads c h = go (yesNoAt (c .playing)) (scaleAt (c .scale)) refl refl (subst T (sym (transport-known c)) h)
-  where
-    go : (y : YesNo) (z : ScaleCode) → yesNoAt (c .playing) ≡ y → scaleAt (c .scale) ≡ z → T (isTransport (transportAt c)) → (t : Transport) × Reads c t
-    go (YesNo.Known playing) (ScaleCode.Known scale) e f h =
-        (transportBy c playing scale, record { is = rw (e, f) refl; rate = refl; tempo = refl; bar = refl; beats = refl; seconds = refl; swing = refl; scale = f; playing = e })
-    go (YesNo.Known playing) ScaleCode.Unknown e f h = absurd (rw (e, f) at h)
-    go YesNo.Unknown z e f h = absurd (rw e at h)
-
 -- equal codes stand for one pace
 known-scale : (s r : Scale) → ScaleCode.Known s ≡ ScaleCode.Known r → s ≡ r
 known-scale s r e = cc
 
-pub same-pace : (c d : TransportCodes) (t u : Transport) → Reads c t → Reads d u → rateOf c ≡ rateOf d → paceOf t ≡ paceOf u
+pub same-pace : (c d : TransportCodes) (t u : Transport) → TransportRead c t → TransportRead d u → rateOf c ≡ rateOf d → paceOf t ≡ paceOf u
 same-pace c d t u r q e = go rate tempo bar swing scale
   where
     rate : t .«sample_rate» ≡ u .«sample_rate»
@@ -104,12 +65,13 @@ plays-by (suc (suc n)) b e = let z : _≡_ {A = ℕ} 0 1 = cc in absurd (omega a
 -- codes of a transport that the questions let pass
 pub record Passes (c : TransportCodes) : Type 0 where
   pub t : Transport
-  pub reading : Reads c t
+  pub is : transportAt c ≡ TransportCode.Known t
+  pub reading : TransportRead c t
   pub within : TransportIn t
 
 pub accepted-block : (p : State) (c : TransportCodes) (frames : ℕ) (restart : RestartCodes) (x y : List Float) → answer p (block c frames restart x y) ≡ 0 → Passes c
 unfolding answer questions
 accepted-block p c frames restart x y e =
     let a = block-accepted (p .played) c frames restart (length x) (length y) e .transport in
-    let r = reads c (yes-so (a .known)) in
-    record { t = r .0; reading = r .1; within = transport-in c a (r .0) (r .1 .is) }
+    let r = transport-of c (yes-so (a .known)) in
+    record { t = r .0; is = r .1; reading = transport-read c (r .0) (r .1); within = transport-in c a (r .0) (r .1) }

@@ -22,6 +22,7 @@ use Rattle.questions.specs.declared.RestartCodes.{RestartCodes}
 use Rattle.calls.specs.State.{State}
 use Rattle.calls.specs.Blocks.{pendingOf, playedState, values}
 use Rattle.calls.specs.Calls.{Call, settings, shape, path, bus, phase, block, answer, accepts, step}
+use Rattle.calls.proofs.Answers.{refused-player, phase-keeps}
 use Rattle.restart.specs.Heard.{Side, read, framesUpTo, blocksUpTo, heard, window}
 use Rattle.restart.specs.Rule.{Restarts, Rate, rateOf, Gets, Every, more}
 use Rattle.restart.proofs.Constants.{Constants, constantsOf, same-constants, not-locked}
@@ -31,7 +32,7 @@ use Rattle.restart.proofs.Parts.{none-outs, none-voice, before-outs}
 use Rattle.restart.proofs.Accepted.{same-pace, plays-by, Passes, accepted-block}
 use Rattle.restart.proofs.Settled.{Settled}
 use Rattle.restart.proofs.Ready.{inc-number}
-use Rattle.restart.proofs.Steps.{refused-keeps, phase-keeps, valueOf, block-runs, read-values, Has, values-parts, played-voice, has-played}
+use Rattle.restart.proofs.Steps.{valueOf, block-runs, read-values, Has, values-parts, played-voice, has-played}
 
 pub head : {Q : TransportCodes → Type 0} {c : TransportCodes} {l : List TransportCodes} → Every Q (c ∷ l) → Q c
 head (more q e) = q
@@ -155,23 +156,23 @@ module _ (s : Settings) (q : Curve) (rate : Rate) (S : Standing s rate) where
         → Plays side p (cond t (framesUpTo (pendingOf r) n (read side p c n r x y) (heard side z cs)) (heard side z cs))
     block-case true z a e ev ih =
         let B = block-taken p c n r x y a in
-        let e′ : z ≡ playedState p (B .t) n (pendingOf r) = e ∙ block-runs p c n r x y (B .t) (B .reading) a in
+        let e′ : z ≡ playedState p (B .t) n (pendingOf r) = e ∙ block-runs p c n r x y (B .t) (B .is) a in
         subst (λ (w : State). Every (Gets s rate) (blocksUpTo (pendingOf r) c (window w cs)) → Plays side p (framesUpTo (pendingOf r) n (read side p c n r x y) (heard side w cs))) (sym e′)
-        (λ ev′. subst (λ (l : List Float). Plays side p (framesUpTo (pendingOf r) n l (heard side (playedState p (B .t) n (pendingOf r)) cs))) (sym (read-values p c n r x y (B .t) (B .reading) a side)) (taken (pendingOf r) B ev′ ih))
+        (λ ev′. subst (λ (l : List Float). Plays side p (framesUpTo (pendingOf r) n l (heard side (playedState p (B .t) n (pendingOf r)) cs))) (sym (read-values p c n r x y (B .t) (B .is) a side)) (taken (pendingOf r) B ev′ ih))
         ev
-    block-case false z a e ev ih = refused-case side p z cs (e ∙ refused-keeps p (block c n r x y) a) d ev ih
+    block-case false z a e ev ih = refused-case side p z cs (e ∙ refused-player p (block c n r x y) a) d ev ih
 
   pub heard-plays : (side : Side) (cs : List Call) → Later side cs
   unfolding heard window plays
   heard-plays side [] p d ev = (0, refl)
   heard-plays side (settings c ∷ cs) p d ev =
-      edit-case side p (step p (settings c)) cs (accepts p (settings c)) (refused-keeps p (settings c)) d ev (heard-plays side cs)
+      edit-case side p (step p (settings c)) cs (accepts p (settings c)) (refused-player p (settings c)) d ev (heard-plays side cs)
   heard-plays side (shape points n loopback es ∷ cs) p d ev =
-      edit-case side p (step p (shape points n loopback es)) cs (accepts p (shape points n loopback es)) (refused-keeps p (shape points n loopback es)) d ev (heard-plays side cs)
+      edit-case side p (step p (shape points n loopback es)) cs (accepts p (shape points n loopback es)) (refused-player p (shape points n loopback es)) d ev (heard-plays side cs)
   heard-plays side (path points n closed legs ∷ cs) p d ev =
-      edit-case side p (step p (path points n closed legs)) cs (accepts p (path points n closed legs)) (refused-keeps p (path points n closed legs)) d ev (heard-plays side cs)
+      edit-case side p (step p (path points n closed legs)) cs (accepts p (path points n closed legs)) (refused-player p (path points n closed legs)) d ev (heard-plays side cs)
   heard-plays side (bus k z ∷ cs) p d ev =
-      edit-case side p (step p (bus k z)) cs (accepts p (bus k z)) (refused-keeps p (bus k z)) d ev (heard-plays side cs)
+      edit-case side p (step p (bus k z)) cs (accepts p (bus k z)) (refused-player p (bus k z)) d ev (heard-plays side cs)
   heard-plays side (phase c ∷ cs) p d ev = refused-case side p (step p (phase c)) cs (phase-keeps p c) d ev (heard-plays side cs)
   heard-plays side (block c n r x y ∷ cs) p d ev =
       block-case side p d c n r x y cs (accepts p (block c n r x y)) (step p (block c n r x y)) refl refl ev (heard-plays side cs)

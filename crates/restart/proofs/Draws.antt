@@ -13,7 +13,8 @@ use borrow.Author.Tests.{ne-eqb}
 use Rattle.floatlaws.specs.Numbers.{f64-0}
 use Rattle.floatlaws.specs.Rounded.{toF64}
 use Rattle.floatlaws.specs.Whole.{wholeOf, toFloor}
-use Rattle.floatlaws.proofs.Size.{Sized, Size, size-more}
+use Rattle.floatlaws.specs.Size.{Sized, Size}
+use Rattle.floatlaws.proofs.Size.{size-more}
 use Rattle.random.specs.Draw.{drawn}
 use Rattle.settings.specs.declared.choices.Mode.{Mode}
 use Rattle.position.specs.Position.{swungOf, swungBy}

@@ -34,9 +34,9 @@ use Rattle.questions.specs.Tests.{every, pointKnown, pointFinite, settingsFinit
 use Rattle.questions.specs.Questions.{firstNo, settingsQuestions, shapeQuestions, busQuestions, phaseQuestions, blockQuestions}
 use Rattle.calls.specs.State.{newState, withSettings, withShape, withBus, movedBuses}
 use Rattle.calls.specs.Blocks.{pendingOf, playedState, values}
-use Rattle.calls.specs.Calls.{Call, settings, shape, path, bus, phase, block, questions, answer, makes, made, accepted, step, played, buffer}
-use Rattle.restart.specs.Heard.{after, Side, x-side, y-side, read, heard, window}
-use Rattle.restart.specs.Rule.{RestartIn, framesFrom, throughout, rateOf, none, more, Hypotheses}
+use Rattle.calls.specs.Calls.{Call, settings, shape, path, bus, phase, block, questions, answer, makes, made, accepted, step, after, played, buffer}
+use Rattle.restart.specs.Heard.{Side, x-side, y-side, read, heard, window}
+use Rattle.restart.specs.Rule.{RestartIn, framesFrom, throughout, atRestart, rateOf, none, more, Hypotheses}
 use Rattle.restart.proofs.RestartRule.{restart-rule}
 
 -- ---- what the calls are handed
@@ -219,7 +219,7 @@ restart₂ =
 not-held : Drawn ≡ SampleAndHold → ⊥
 not-held e = let z : _≡_ {A = ℕ} 0 1 = cc in omega arith
 
-met : Hypotheses (made drawn 1) (made other 2) calls₁ calls₂ restart₁ restart₂ (rateOf here)
+met : Hypotheses (atRestart (made drawn 1) calls₁ restart₁) (atRestart (made other 2) calls₂ restart₂) (rateOf here)
 unfolding restart₁ restart₂ throughout window after step answer questions firstNo settingsQuestions blockQuestions busQuestions settingsKnown settingsFinite transportKnown transportFinite transportIn settingsAt withSwitches withSpans rateAt spanAt smoothAt transportAt scaleAt accepted playedState withBus made newState lib.Ieee.neg le lt eq ofBits shapeQuestions phaseQuestions every pointKnown pointFinite withSettings withShape pendingOf clampedSettings clampedRate clampedSpan movedBuses givenShape givenPoints pointOf modOf loopbackOf within shapeOf sortedArray sortedPoints insertPoint slotOf clampedPoint tabulate lastWhere inserted defaultShape clampOf
 met =
     record {

@@ -83,7 +83,7 @@ module _ (s : Settings) (q : Curve) (rate : Rate) (S : Standing s rate) (from : 
 
   past-is : statePast from calls r ≡ past
   past-is =
-      block-runs P (r .transport) (r .frames) (r .restart) (r .x) (r .y) t (T .reading) taken ∙ ap (λ (at : Pending). playedState P t (r .frames) at) (pending-at (r .restart) (r .carried))
+      block-runs P (r .transport) (r .frames) (r .restart) (r .x) (r .y) t (T .is) taken ∙ ap (λ (at : Pending). playedState P t (r .frames) at) (pending-at (r .restart) (r .carried))
 
   past-voice : past .voice ≡ ahead s q rate S own start
   past-voice =
@@ -111,7 +111,7 @@ module _ (s : Settings) (q : Curve) (rate : Rate) (S : Standing s rate) (from : 
   own-values : (side : Side) → drop k (read side P (r .transport) (r .frames) (r .restart) (r .x) (r .y)) ≡ sounds s q rate S side own start
   own-values side =
       ap (λ (l : List Float). drop k l)
-      (read-values P (r .transport) (r .frames) (r .restart) (r .x) (r .y) t (T .reading) taken side
+      (read-values P (r .transport) (r .frames) (r .restart) (r .x) (r .y) t (T .is) taken side
       ∙ ap (λ (at : Pending). values P t (r .frames) at (valueOf side)) (pending-at (r .restart) (r .carried))
       ∙ values-parts s q P h t (r .frames) (At (r .restart .frame)) (valueOf side))
       ∙ from-outs s q b₀ b (r .frames) (P .voice) (S .mode) free like (inc-number s (S .settled) (P .lfo .clock) t (T .within) (r .frames)) (r .restart .frame) (valueOf side)
@@ -132,7 +132,7 @@ module _ (s : Settings) (q : Curve) (rate : Rate) (S : Standing s rate) (from : 
 
   pub word-is : wordAt from calls r ≡ reaches s q b k (P .voice) .source .rng
   unfolding wordAt begun
-  word-is = rw (T .reading .is) (word-cong (P .lfo .settings) (P .lfo) (P .voice) (h .settings) (h .curve))
+  word-is = rw (T .is) (word-cong (P .lfo .settings) (P .lfo) (P .voice) (h .settings) (h .curve))
     where
       word-cong : (s′ : Settings) (lfo : Lfo) (v : Voice) → s′ ≡ s → slotCurve (s .kind) lfo ≡ q
           → reaches s′ (slotCurve (s′ .kind) lfo) (preparedOf s′ (lfo .clock) t (r .frames) .block) k v .source .rng

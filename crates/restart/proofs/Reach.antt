@@ -21,8 +21,7 @@ use Rattle.questions.specs.Questions.{firstNo, settingsQuestions}
 use Rattle.questions.proofs.Facts.{settings-accepted}
 use Rattle.calls.specs.State.{State, newState, withSettings, withShape, withPath, withBus}
 use Rattle.calls.specs.Blocks.{pendingOf, playedState}
-use Rattle.calls.specs.Calls.{Call, settings, shape, path, bus, phase, block, questions, answer, accepts, bySettings, byTransport, makes, noPlayer, made, accepted, step}
-use Rattle.restart.specs.Heard.{after}
+use Rattle.calls.specs.Calls.{Call, settings, shape, path, bus, phase, block, questions, answer, accepts, bySettings, byTransport, makes, noPlayer, made, accepted, step, after}
 use Rattle.restart.specs.Rule.{Equal}
 use Rattle.restart.proofs.Kept.{KeptShape, KeptPath, default-shape, given-shape, default-path, given-path, same-shape, same-path}
 use Rattle.restart.proofs.Settled.{Settled, settled-stored, settled-default, Fine, settings-fine}

@@ -8,7 +8,8 @@ use lib.Ieee.{nan, eq}
 use lib.Ieee.Bits.{is-true}
 use Rattle.floatlaws.proofs.NoNan.{finite-number}
 use Rattle.floatlaws.proofs.Order.{eq-refl-at}
-use Rattle.floatlaws.proofs.Size.{Size, size-finite, size-more}
+use Rattle.floatlaws.specs.Size.{Size}
+use Rattle.floatlaws.proofs.Size.{size-finite, size-more}
 use Rattle.settings.specs.declared.record.Settings.{Settings}
 use Rattle.settings.specs.declared.record.Transport.{Transport}
 use Rattle.clock.specs.declared.free.Clock.{Clock}

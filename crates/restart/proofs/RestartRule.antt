@@ -18,7 +18,7 @@ use Rattle.slot.specs.Slot.{slotCurve}
 use Rattle.calls.specs.State.{State}
 use Rattle.calls.specs.Calls.{Call, made}
 use Rattle.restart.specs.Heard.{Side, x-side, y-side}
-use Rattle.restart.specs.Rule.{RestartIn, stateAt, frameAt, framesFrom, throughout, Rate, rateOf, Gets, Every, Hypotheses, RestartRule}
+use Rattle.restart.specs.Rule.{RestartIn, stateAt, frameAt, framesFrom, throughout, atRestart, Rate, rateOf, Gets, Every, Hypotheses, RestartRule}
 use Rattle.restart.proofs.Alike.{Alike}
 use Rattle.restart.proofs.Stream.{tone, length-plays, plays-at, alike-x, alike-y}
 use Rattle.restart.proofs.Parts.{reaches, reaches-made}
@@ -31,7 +31,7 @@ use Rattle.restart.proofs.Cuts.{head, Standing, standing, ahead}
 use Rattle.restart.proofs.From.{like, free, from-plays, start-is, word-is}
 
 module _ (p₁ p₂ : State) (calls₁ calls₂ : List Call) (r₁ : RestartIn p₁ calls₁) (r₂ : RestartIn p₂ calls₂) (rate : Rate)
-    (g₁ : Good (stateAt p₁ calls₁ r₁)) (g₂ : Good (stateAt p₂ calls₂ r₂)) (hyp : Hypotheses p₁ p₂ calls₁ calls₂ r₁ r₂ rate) where
+    (g₁ : Good (stateAt p₁ calls₁ r₁)) (g₂ : Good (stateAt p₂ calls₂ r₂)) (hyp : Hypotheses (atRestart p₁ calls₁ r₁) (atRestart p₂ calls₂ r₂) rate) where
   abbrev P₁ : State
   P₁ = stateAt p₁ calls₁ r₁
 

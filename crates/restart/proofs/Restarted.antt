@@ -4,7 +4,8 @@ use mathlib.Core.Path.{_≡_, refl, sym, ap, ap₂, _∙_}
 use mathlib.Core.Logic.{_⊎_, inl, inr}
 use lib.Dec.{lit≤}
 use lib.Ieee.{Float, nan}
-use Rattle.floatlaws.proofs.Size.{Size, size-more}
+use Rattle.floatlaws.specs.Size.{Size}
+use Rattle.floatlaws.proofs.Size.{size-more}
 use Rattle.settings.specs.declared.choices.LfoType.{LfoType}
 use Rattle.settings.specs.declared.choices.LfoType.the-variants.{Drawn, Path, Lorenz, Rossler, SampleAndHold}
 use Rattle.settings.specs.declared.choices.Mode.{Mode}

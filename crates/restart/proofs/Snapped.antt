@@ -15,7 +15,8 @@ use Rattle.floatlaws.specs.Rounded.{toF64}
 use Rattle.floatlaws.specs.Whole.{wholeOf, wholeSize, toHalf}
 use Rattle.floatlaws.proofs.Order.{le-says, between-finite}
 use Rattle.floatlaws.proofs.Range.{at-least-zero}
-use Rattle.floatlaws.proofs.Size.{Sized, Size, div-size}
+use Rattle.floatlaws.specs.Size.{Sized, Size}
+use Rattle.floatlaws.proofs.Size.{div-size}
 use Rattle.floatlaws.proofs.Unique.{neg-round, round-held}
 use Rattle.floatlaws.proofs.Unit.{zero-float, one-float}
 use Rattle.floatlaws.proofs.Whole.{whole-value}

@@ -1,77 +1,47 @@
--- A call of a player: a refused one leaves it, and an accepted block is a block of its voice. Assumes nothing.
-use Prim.Native.Nat.{ℕ, _-_, min}
+-- An accepted block of a player is a block of its voice. Assumes nothing.
+use Prim.Native.Nat.{ℕ}
 use mathlib.Core.Path.{_≡_, refl}
-use mathlib.Core.Bool.{Bool, true, false, cond}
+use mathlib.Core.Bool.{true}
 use mathlib.Core.List.{List}
-use native.Mathlib.Nat.{min-le-right}
-use native.Mathlib.Omega.{arith}
-use lib.ListN.{length, drop, length-append}
+use lib.ListN.{drop}
 use lib.Seq.{take-at}
 use lib.Ieee.{Float}
 use Rattle.settings.specs.declared.record.Settings.{Settings}
 use Rattle.settings.specs.declared.record.Transport.{Transport}
 use Rattle.settings.specs.declared.record.TransportCodes.{TransportCodes}
-use Rattle.clock.specs.declared.block.Block.{Block}
+use Rattle.settings.specs.declared.record.TransportCode.the-variants as TransportCode
+use Rattle.settings.specs.Codes.{transportAt}
 use Rattle.clock.specs.Ready.{preparedOf}
 use Rattle.voice.specs.declared.Voice.{Voice}
 use Rattle.voice.specs.Curve.{Curve}
 use Rattle.voice.specs.Frame.{Frame}
 use Rattle.bank.specs.declared.parts.Pending.{Pending}
-use Rattle.bank.specs.declared.parts.Pending.the-variants.{None, At}
-use Rattle.bank.specs.Parts.{begun, restarted, partsVoice, partsOuts}
-use Rattle.bank.proofs.Frames.{length-outs}
+use Rattle.bank.specs.Parts.{partsVoice, partsOuts}
 use Rattle.slot.specs.declared.Lfo.{Lfo}
 use Rattle.slot.specs.Slot.{slotCurve}
 use Rattle.questions.specs.declared.RestartCodes.{RestartCodes}
 use Rattle.calls.specs.State.{State}
 use Rattle.calls.specs.Blocks.{pendingOf, playedState, values}
-use Rattle.calls.specs.Calls.{Call, phase, block, accepts, accepted, step, played, buffer}
+use Rattle.calls.specs.Calls.{block, accepts, accepted, step, played, buffer}
+use Rattle.calls.proofs.Blocks.{length-values}
 use Rattle.restart.specs.Heard.{Side, x-side, y-side, read}
-use Rattle.restart.proofs.Accepted.{Reads}
 
--- ---- a call that leaves the player
-
-pub refused-keeps : (p : State) (c : Call) → accepts p c ≡ false → step p c ≡ p
-unfolding step
-refused-keeps p c e = rw e refl
-
-pub phase-keeps : (p : State) (c : TransportCodes) → step p (phase c) ≡ p
-unfolding step accepted
-phase-keeps p c = same (accepts p (phase c))
-  where
-    same : (t : Bool) → cond t p p ≡ p
-    same true = refl
-    same false = refl
-
--- ---- a block that is accepted
+-- ---- its player, and what it leaves in the buffer
 
 abbrev pub valueOf : Side → Frame → Float
 valueOf x-side = λ f. f .x
 valueOf y-side = λ f. f .y
 
-length-parts : (s : Settings) (q : Curve) (b : Block) (n : ℕ) (v : Voice) (at : Pending) (f : Frame → Float) → length (partsOuts s q b n v at f) ≡ n
-unfolding partsOuts
-length-parts s q b n v None f = length-outs (s .kind) (s .mode) (s .direction) q b 0 f n (begun s q b n v)
-length-parts s q b n v (At at) f =
-    let k = min at n in
-    let h = length-outs (s .kind) (s .mode) (s .direction) q b 0 f k (begun s q b n v) in
-    let g = length-outs (s .kind) (s .mode) (s .direction) q b k f (n - k) (restarted s q b n v k) in
-    simp (length-append, h, g) (omega (arith, min-le-right at n))
-
-pub length-values : (p : State) (t : Transport) (n : ℕ) (at : Pending) (f : Frame → Float) → length (values p t n at f) ≡ n
-unfolding values
-length-values p t n at f = length-parts (p .lfo .settings) (slotCurve (p .lfo .settings .kind) (p .lfo)) (preparedOf (p .lfo .settings) (p .lfo .clock) t n .block) n (p .voice) at f
-
-module _ (p : State) (c : TransportCodes) (n : ℕ) (r : RestartCodes) (x y : List Float) (t : Transport) (R : Reads c t) (e : accepts p (block c n r x y) ≡ true) where
+module _ (p : State) (c : TransportCodes) (n : ℕ) (r : RestartCodes) (x y : List Float) (t : Transport) (R : transportAt c ≡ TransportCode.Known t) (e : accepts p (block c n r x y) ≡ true) where
   pub block-runs : step p (block c n r x y) ≡ playedState p t n (pendingOf r)
   unfolding step accepted
-  block-runs = rw (e, R .is) refl
+  block-runs = rw (e, R) refl
 
   -- what it leaves in the buffer is what it plays
   pub read-values : (side : Side) → read side p c n r x y ≡ values p t n (pendingOf r) (valueOf side)
   unfolding read buffer played
-  read-values x-side = rw (e, R .is) (take-at (values p t n (pendingOf r) (valueOf x-side)) (drop n x) n (length-values p t n (pendingOf r) (valueOf x-side)))
-  read-values y-side = rw (e, R .is) (take-at (values p t n (pendingOf r) (valueOf y-side)) (drop n y) n (length-values p t n (pendingOf r) (valueOf y-side)))
+  read-values x-side = rw (e, R) (take-at (values p t n (pendingOf r) (valueOf x-side)) (drop n x) n (length-values p t n (pendingOf r) (valueOf x-side)))
+  read-values y-side = rw (e, R) (take-at (values p t n (pendingOf r) (valueOf y-side)) (drop n y) n (length-values p t n (pendingOf r) (valueOf y-side)))
 
 -- ---- of a player with given settings and curve
 

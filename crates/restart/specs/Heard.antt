@@ -12,11 +12,6 @@ use Rattle.calls.specs.State.{State}
 use Rattle.calls.specs.Blocks.{pendingOf}
 use Rattle.calls.specs.Calls.{Call, settings, shape, path, bus, phase, block, accepts, step, buffer}
 
--- the player after a list of calls: "Every call gets the player as the last one returned or left it"
-unfoldable pub after : State → List Call → State
-after p [] = p
-after p (c ∷ cs) = after (step p c) cs
-
 -- ---- the frames of one block
 
 -- the x or the y of a frame

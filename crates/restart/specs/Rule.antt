@@ -25,8 +25,8 @@ use Rattle.slot.specs.Slot.{slotCurve}
 use Rattle.curves.specs.Given.{isYes}
 use Rattle.questions.specs.declared.RestartCodes.{RestartCodes}
 use Rattle.calls.specs.State.{State}
-use Rattle.calls.specs.Calls.{Call, block, makes, made, answer, step, byTransport}
-use Rattle.restart.specs.Heard.{after, Side, read, heard, window}
+use Rattle.calls.specs.Calls.{Call, block, makes, made, answer, step, after, byTransport}
+use Rattle.restart.specs.Heard.{Side, read, heard, window}
 
 -- ---- a restart in a list of calls
 
@@ -51,6 +51,16 @@ voiceAt p t frames k =
     let b = preparedOf s (p .lfo .clock) t frames .block in
     voiceAfter (s .kind) (s .mode) (s .direction) q b 0 k (begun s q b frames (p .voice))
 
+-- its random word, "the generator's 64 bits, made from the seed and moved on by every draw"
+abbrev pub wordAfter : State → TransportCodes → ℕ → ℕ → ℕ
+wordAfter p c frames k = byTransport 0 (transportAt c) λ t. voiceAt p t frames k .source .rng
+
+-- What is asked about, of one list: the player that the restart's block gets, the transports that blocks get throughout, and the random word at the restart.
+pub record AtRestart : Type 0 where
+  pub state : State
+  pub transports : List TransportCodes
+  pub word : ℕ
+
 module _ (from : State) (calls : List Call) (r : RestartIn from calls) where
   -- the player that the block gets, and the one that it leaves
   abbrev pub stateAt : State
@@ -71,9 +81,12 @@ module _ (from : State) (calls : List Call) (r : RestartIn from calls) where
   unfoldable pub throughout : List TransportCodes
   throughout = r .transport ∷ window statePast (r .rest)
 
-  -- "The random word is the generator's 64 bits, made from the seed and moved on by every draw up to the restart."
+  -- the random word after "every draw up to the restart", those in its own block too
   unfoldable pub wordAt : ℕ
-  wordAt = byTransport 0 (transportAt (r .transport)) λ t. voiceAt stateAt t (r .frames) frameAt .source .rng
+  wordAt = wordAfter stateAt (r .transport) (r .frames) frameAt
+
+  abbrev pub atRestart : AtRestart
+  atRestart = record { state = stateAt; transports = throughout; word = wordAt }
 
 -- ---- what is asked of the two lists
 
@@ -88,11 +101,11 @@ pub record SameShape (a b : Shape) : Type 0 where
   pub loopback : a .loopback ≡ b .loopback
 
 -- and of a stored path, whose legs are there as the times that they give (`same-legs` of proofs/Kept.antt)
-pub record SamePath (a b : Path) : Type 0 where
-  pub count : a .len ≡ b .len
-  pub points : take (a .len) (a .points) ≡ take (b .len) (b .points)
-  pub closed : a .closed ≡ b .closed
-  pub times : a .times ≡ b .times
+pub record SamePath (p q : Path) : Type 0 where
+  pub count : p .len ≡ q .len
+  pub points : take (p .len) (p .points) ≡ take (q .len) (q .points)
+  pub closed : p .closed ≡ q .closed
+  pub times : p .times ≡ q .times
 
 -- "the two players have equal settings, curve, supplied numbers and stored buses"
 pub record Equal (p q : State) : Type 0 where
@@ -126,16 +139,16 @@ pub data Every (Q : TransportCodes → Type 0) : List TransportCodes → Type 0 
   none : Every Q []
   more : {c : TransportCodes} {l : List TransportCodes} → Q c → Every Q l → Every Q (c ∷ l)
 
-pub record Hypotheses (p q : State) (calls₁ calls₂ : List Call) (r₁ : RestartIn p calls₁) (r₂ : RestartIn q calls₂) (rate : Rate) : Type 0 where
+pub record Hypotheses (a b : AtRestart) (rate : Rate) : Type 0 where
   -- "Take in each list any restart in mode Restart or One-shot"
-  pub mode : Restarts (stateAt p calls₁ r₁ .lfo .settings .mode)
+  pub mode : Restarts (a .state .lfo .settings .mode)
   -- "at which the two players have equal settings, curve, supplied numbers and stored buses"
-  pub equal : Equal (stateAt p calls₁ r₁) (stateAt q calls₂ r₂)
+  pub equal : Equal (a .state) (b .state)
   -- "from the restart's block on song lock is not in force and both get one and the same sample rate, tempo, bar, swing and scale, unchanged throughout"
-  pub gets₁ : Every (Gets (stateAt p calls₁ r₁ .lfo .settings) rate) (throughout p calls₁ r₁)
-  pub gets₂ : Every (Gets (stateAt q calls₂ r₂ .lfo .settings) rate) (throughout q calls₂ r₂)
+  pub gets₁ : Every (Gets (a .state .lfo .settings) rate) (a .transports)
+  pub gets₂ : Every (Gets (b .state .lfo .settings) rate) (b .transports)
   -- "Sample-and-Hold also needs equal random words at the restart."
-  pub words : stateAt p calls₁ r₁ .lfo .settings .kind ≡ SampleAndHold → wordAt p calls₁ r₁ ≡ wordAt q calls₂ r₂
+  pub words : a .state .lfo .settings .kind ≡ SampleAndHold → a .word ≡ b .word
 
 -- ---- the rule
 
@@ -145,6 +158,6 @@ abbrev pub RestartRule : Type 0
 RestartRule =
     (codes₁ codes₂ : SettingsCodes) (seed₁ seed₂ : ℕ) → makes codes₁ ≡ true → makes codes₂ ≡ true
     → (calls₁ calls₂ : List Call) (r₁ : RestartIn (made codes₁ seed₁) calls₁) (r₂ : RestartIn (made codes₂ seed₂) calls₂) (rate : Rate)
-    → Hypotheses (made codes₁ seed₁) (made codes₂ seed₂) calls₁ calls₂ r₁ r₂ rate
+    → Hypotheses (atRestart (made codes₁ seed₁) calls₁ r₁) (atRestart (made codes₂ seed₂) calls₂ r₂) rate
     → (side : Side) (n : ℕ) → n < length (framesFrom (made codes₁ seed₁) calls₁ r₁ side) → n < length (framesFrom (made codes₂ seed₂) calls₂ r₂ side)
     → getD (framesFrom (made codes₁ seed₁) calls₁ r₁ side) n nan ≡ getD (framesFrom (made codes₂ seed₂) calls₂ r₂ side) n nan

@@ -1,6 +1,7 @@
-// Prints the sheet of document 01: each frame's index, and its x and y as the bits of f32.
+// Prints the sheet of document 01: each frame's index, and its x and y as the bits of f32. Of a refused call it prints the answer alone.
 //
 // Its item: the default shape, strengths 1, Restart, 250 Hz with ×10, sample rate 1,000, scale 100 percent, phase 0, no smoothing, no restart, 4 frames.
+use libc::STDERR_FILENO;
 use libc::STDOUT_FILENO;
 use questions::RestartCodes;
 use settings::RateCodes;
@@ -85,17 +86,33 @@ fn transport() -> TransportCodes {
     }
 }
 
+// Whether an answer is a refusal; if so, prints it, with words on standard error.
+fn refused(answer: u8) -> bool {
+    if answer == 0 {
+        return false;
+    }
+    io::print_decimal(STDOUT_FILENO, answer as u64);
+    show(b"\n");
+    io::write_all(
+        STDERR_FILENO,
+        b"sheet: refused; docs/RULES.md has the question of that number\n",
+    );
+    true
+}
+
 fn main() {
     let given = settings();
     let made = player::make(given, 0);
+    if refused(made.answer) {
+        return;
+    }
     let p = made.player;
     let t = transport();
     let restart = RestartCodes { code: 0, frame: 0 };
     let mut x = [0.0f32; FRAMES];
     let mut y = [0.0f32; FRAMES];
-    let played = player::play(p, t, 4, restart, &mut x, &mut y);
-    if played.answer != 0 {
-        show(b"refused\n");
+    let played = player::play(p, t, FRAMES as u64, restart, &mut x, &mut y);
+    if refused(played.answer) {
         return;
     }
     show(b"frame x y\n");

@@ -13,7 +13,6 @@ use lib.Ieee.Scale.{finite}
 use Rattle.floatlaws.specs.Numbers.{Between, f32-0, f32-1, f32-2}
 use Rattle.floatlaws.specs.Extrema.{clampOf}
 use Rattle.listlaws.proofs.Tabulation.{getD-padded}
-use Rattle.points.specs.Arrays.{Ascends}
 use Rattle.points.specs.Modulation.{FiniteBuses}
 use Rattle.points.proofs.Offsets.{moved-number}
 use Rattle.shape.specs.declared.Loopback.{Loopback}
@@ -21,8 +20,8 @@ use Rattle.shape.specs.declared.Loopback.the-variants as Loopback
 use Rattle.shape.specs.declared.Shape.{Shape}
 use Rattle.shape.specs.declared.sorting.Point.{Point}
 use Rattle.shape.specs.Points.{noPoint, FinitePoint}
-use Rattle.shape.specs.Shapes.{shapeOf, defaultShape, floorAt, modulatedOf}
-use Rattle.shape.proofs.Modulation.{NumbersX, modulated-ascends, modulated-x}
+use Rattle.shape.specs.Shapes.{shapeOf, defaultShape, floorAt, modulatedOf, NumbersX}
+use Rattle.shape.proofs.Modulation.{modulated-ascends, modulated-x}
 use Rattle.shape.proofs.Accepted as shapes
 use Rattle.path.specs.declared.Path.{Path}
 use Rattle.path.specs.declared.PathPoint.{PathPoint}
@@ -34,14 +33,7 @@ use Rattle.reach.specs.Bounds.{LoopIn}
 use Rattle.settings.specs.declared.choices.LfoType.{LfoType}
 use Rattle.settings.specs.declared.choices.LfoType.the-variants as LfoType
 use Rattle.voice.specs.Curve.{Searchable}
-use Rattle.slot.specs.Moved.{shapeLists, listsOf, LoopbackIn, loopAt, loopOf, curveOf}
-
--- what a search asks of the curves
-abbrev pub ShapeUp : Shape → List Float → Type 0
-ShapeUp shape buses = Ascends (modulatedOf (shape .points) (shape .len) buses .xs) (shape .len)
-
-abbrev pub PathUp : Path → Type 0
-PathUp path = Ascends (path .times) (suc (segmentsOf (path .len) (path .closed)))
+use Rattle.slot.specs.Moved.{shapeLists, listsOf, LoopbackIn, loopAt, loopOf, curveOf, ShapeUp, PathUp}
 
 pub searchable-by : (shape : Shape) (path : Path) (buses : List Float) → shape .len ≤ 64 → path .len ≤ 64 → ShapeUp shape buses → PathUp path
     → (kind : LfoType) → Searchable kind (curveOf kind shape path buses)

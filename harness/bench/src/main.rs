@@ -2,10 +2,13 @@
 #![allow(dead_code)]
 
 include!(concat!(env!("OUT_DIR"), "/source.rs"));
+#[path = "../../src/progress.rs"]
+mod progress;
 #[path = "../../src/simd.rs"]
 pub mod simd;
 
 use lfo::{Lfo, LfoBank, LfoType, Mode, Point, Rate, Settings, Transport};
+use progress::Progress;
 use std::hint::black_box;
 use std::io::Write;
 use std::process::{Command, Stdio};
@@ -113,7 +116,9 @@ fn main() {
         }
     }
     let mut times = vec![vec![(Vec::new(), Vec::new()); ITEMS.len()]; SIZES.len()];
-    for _ in 0..rounds {
+    let mut progress = Progress::new();
+    for round in 0..rounds {
+        progress.show(|| format!("bench: {round} of {rounds} rounds"));
         for (s, size) in SIZES.into_iter().enumerate() {
             for item in 0..ITEMS.len() {
                 times[s][item].0.push(time(item, size));

@@ -2,10 +2,10 @@
 use Prim.Native.Nat.{ℕ}
 use mathlib.Core.Path.{_≡_, sym, _∙_}
 use mathlib.Core.Bool.{Bool}
-use mathlib.Core.List.{List}
+use mathlib.Core.List.{List, [], _∷_}
 use native.Mathlib.Omega.{arith}
 use borrow.Author.Needs.{needs}
-use borrow.Author.Tests.{eq-eqb, ne-eqb}
+use borrow.Author.Tests.{ne-eqb}
 use lib.Ieee.{Float}
 use lib.Ieee.Scale.{finite}
 use Rattle.shape.specs.declared.Shape.{Shape}
@@ -14,8 +14,8 @@ use Rattle.curves.specs.declared.PointCodes.{PointCodes}
 use Rattle.curves.specs.declared.LoopbackCodes.{LoopbackCodes}
 use Rattle.curves.specs.Given.{givenShape}
 use Rattle.questions.specs.Questions.{firstNo, shapeQuestions}
-use Rattle.evaluate.specs.declared.Value.the-variants.{Refused, At}
-use Rattle.evaluate.specs.Values.{valueOf, evaluatedShape}
+use Rattle.questions.specs.Answers.{refusal, success}
+use Rattle.evaluate.specs.Values.{valueAnswer, evaluatedShape}
 use Rattle.questions.proofs.Facts.{shape-accepted}
 use Rattle.evaluate.proofs.evaluate_shape.Statement.{statement}
 use Rattle.evaluate.proofs.evaluate_shape.Tie as tie
@@ -26,22 +26,24 @@ module _ (points : List PointCodes) (count : ℕ) (loopback : LoopbackCodes) (st
   number : firstNo (shapeQuestions (finite x) points count loopback strengths) ≡ n
   number = rw (← o) (sym a)
 
-  refused : (n ≡ 0 → ⊥) → Refused n ≡ evaluatedShape points count loopback strengths x
-  unfolding evaluatedShape valueOf
+  refused : (n ≡ 0 → ⊥) → refusal n ≡ evaluatedShape points count loopback strengths x
+  unfolding evaluatedShape
   refused h = rw (number, ne-eqb n 0 h)
 
   answered : n ≡ 0 → (s : Shape) (v : Float) → s ≡ givenShape points count loopback strengths → v ≡ shapeValue s x
-      → At v ≡ evaluatedShape points count loopback strengths x
-  unfolding evaluatedShape valueOf
-  answered h s v e f = rw (number, eq-eqb n 0 h, f, e)
+      → success (v ∷ []) ≡ evaluatedShape points count loopback strengths x
+  unfolding evaluatedShape
+  answered h s v e f = rw (number, h, f, e)
 
 returns : tie.Need-returns
+unfolding valueAnswer
 returns c = refused _ _ _ _ _ _ _ (c .before .before .is-finite-f32 .ensures) (c .before .shape-answer .ensures) (c .if1 .taken)
 
 shape-of-requires : tie.Need-shape-of-requires
 shape-of-requires c κs = omega (arith, shape-accepted _ _ _ _ _ (sym (c .before .shape-answer .ensures) ∙ c .if1 .left) .length-is)
 
 returns-2 : tie.Need-returns-2
+unfolding valueAnswer
 returns-2 c =
     let d = c .before .before in
     answered _ _ _ _ _ _ _ (d .before .before .is-finite-f32 .ensures) (d .before .shape-answer .ensures) (d .if1 .left) _ _ (c .before .shape-of .ensures .0) (c .value .ensures)

@@ -11,11 +11,11 @@ use Rattle.oracle.proofs.edits.bus_reply.Tie as tie
 returns : tie.Need-returns
 unfolding callNumbers
 returns c =
-    let e = c .before .before .before .before in
+    let e = c .before .before in
     let a = e .before .before .before .before .before .args in
     let r = bus-call (now (a .run)) (e .before .before .before .read-number .ensures) (e .before .before .read-f32 .ensures) in
-    rw (c .reply .ensures)
-    (replies-read (now (a .run)) (a .p) r (e .if1 .taken) _ refl (edit-answers (c .before .before .before .set-bus .ensures) refl _))
+    rw (c .edited .ensures)
+    (replies-read (now (a .run)) (a .p) r (e .if1 .taken) _ refl (edit-answers (c .before .set-bus .ensures) refl _))
 
 returns-2 : tie.Need-returns-2
 returns-2 c =
@@ -31,7 +31,6 @@ bus-reply-spec =
     (λ c κs. search needs)
     (λ c κs. search needs)
     (λ c κs. search needs)
-    (λ c. search needs)
     (λ c κs. search needs)
     returns
     (λ c κs. search needs)

@@ -3,7 +3,6 @@ use mathlib.Core.Path.{refl}
 use borrow.Author.Needs.{needs}
 use denote.Ref.{now}
 use Rattle.oracle.specs.Numbers.{callNumbers}
-use Rattle.oracle.specs.Promises.{replyOf}
 use Rattle.oracle.proofs.Readings.{settings-call}
 use Rattle.oracle.proofs.Replying.{replies-read, replies-ill, edit-answers}
 use Rattle.oracle.proofs.edits.settings_reply.Statement.{statement}
@@ -12,11 +11,11 @@ use Rattle.oracle.proofs.edits.settings_reply.Tie as tie
 returns : tie.Need-returns
 unfolding callNumbers
 returns c =
-    let e = c .before .before .before .before in
+    let e = c .before .before in
     let a = e .before .before .before .before .before .args in
-    rw (c .reply .ensures)
+    rw (c .edited .ensures)
     (replies-read (now (a .run)) (a .p) (settings-call (now (a .run)) (e .before .before .before .read-settings .ensures)) (e .before .if1 .taken) _ refl
-    (edit-answers (c .before .before .before .set-settings .ensures) refl _))
+    (edit-answers (c .before .set-settings .ensures) refl _))
 
 returns-2 : tie.Need-returns-2
 returns-2 c =
@@ -31,7 +30,6 @@ settings-reply-spec =
     (tie.spec
     (λ c κs. search needs)
     (λ c κs. search needs)
-    (λ c. search needs)
     (λ c κs. search needs)
     returns
     (λ c κs. search needs)

@@ -16,11 +16,11 @@ slice-aggregate-set-shape c = simp length-take (omega arith)
 returns : tie.Need-returns
 unfolding callNumbers
 returns c =
-    let e = c .before .before .before .before .before .before .before in
+    let e = c .before .before .before .before .before in
     let a = e .before .before .before .before .before .before .before .args in
-    rw (c .reply .ensures)
+    rw (c .edited .ensures)
     (replies-read (now (a .run)) (a .p) (shape-call (now (a .run)) (e .before .before .before .read-shape .ensures .0)) (e .if1 .taken) _ refl
-    (edit-answers (c .before .before .before .set-shape .ensures) refl _))
+    (edit-answers (c .before .set-shape .ensures) refl _))
 
 returns-2 : tie.Need-returns-2
 returns-2 c =
@@ -39,7 +39,6 @@ shape-reply-spec =
     (λ c. search needs)
     slice-aggregate-set-shape
     (λ c κs. search needs)
-    (λ c. search needs)
     (λ c κs. search needs)
     returns
     (λ c κs. search needs)

@@ -4,7 +4,7 @@ use native.Mathlib.Omega.{arith}
 use borrow.Author.Needs.{needs}
 use denote.Ref.{now}
 use lib.ListN.{length-take}
-use Rattle.oracle.specs.Numbers.{placeNumbers, numbers, stateAfter}
+use Rattle.oracle.specs.Numbers.{numbers, stateAfter}
 use Rattle.oracle.proofs.Readings.{path-at-call}
 use Rattle.oracle.proofs.Replying.{replies-read, replies-ill, says-answers}
 use Rattle.oracle.proofs.values.path_at_reply.Statement.{statement}
@@ -16,12 +16,12 @@ slice-aggregate-evaluate-path c = simp length-take (omega arith)
 returns : tie.Need-returns
 unfolding numbers stateAfter
 returns c =
-    let e = c .before .before .before .before in
+    let e = c .before .before .before .before .before in
     let s = e .before .before .before .before .before .before .before .before in
     let a = s .args in
-    let said = rw (c .before .evaluate-path .ensures) at (c .place-says .ensures) in
+    let said = rw (c .before .before .evaluate-path .ensures) at (c .before .place-says .ensures) in
     let r = path-at-call (now (a .run)) (e .before .before .before .before .read-path .ensures .0) (e .before .before .read-f32 .ensures) in
-    replies-read (now (a .run)) (a .p) r (e .if1 .taken) _ (said .next-is) (says-answers said refl refl (s .pre))
+    rw (c .unchanged .ensures) (replies-read (now (a .run)) (a .p) r (e .if1 .taken) _ refl (says-answers said refl refl (s .pre) _))
 
 returns-2 : tie.Need-returns-2
 returns-2 c =
@@ -40,6 +40,7 @@ path-at-reply-spec =
     (λ c κs. search needs)
     (λ c. search needs)
     slice-aggregate-evaluate-path
+    (λ c κs. search needs)
     (λ c κs. search needs)
     (λ c κs. search needs)
     returns

@@ -1,21 +1,22 @@
 -- `phase_reply` meets its contract. Assumes nothing.
+use mathlib.Core.Path.{refl}
 use borrow.Author.Needs.{needs}
 use denote.Ref.{now}
-use Rattle.oracle.specs.Numbers.{numbers, stateAfter}
+use Rattle.oracle.specs.Numbers.{callNumbers, numbers, stateAfter}
 use Rattle.oracle.proofs.Readings.{phase-call}
-use Rattle.oracle.proofs.Replying.{replies-read, replies-ill, says-answers, reading-numbers, phase-stays}
+use Rattle.oracle.proofs.Replying.{replies-read, replies-ill, says-answers, phase-stays}
 use Rattle.oracle.proofs.values.phase_reply.Statement.{statement}
 use Rattle.oracle.proofs.values.phase_reply.Tie as tie
 
 returns : tie.Need-returns
-unfolding numbers stateAfter
+unfolding numbers callNumbers stateAfter
 returns c =
-    let e = c .before .before .before in
+    let e = c .before .before .before .before in
     let s = e .before .before .before .before in
     let a = s .args in
-    let said = rw (c .before .phase .ensures) at (c .reading-says .ensures) in
+    let said = rw (c .before .before .phase .ensures) at (c .before .reading-says .ensures) in
     let r = phase-call (now (a .run)) (e .before .before .read-transport .ensures) in
-    replies-read (now (a .run)) (a .p) r (e .if1 .taken) _ (said .next-is) (says-answers said (reading-numbers _ _) (phase-stays _ _) (s .pre))
+    rw (c .unchanged .ensures) (replies-read (now (a .run)) (a .p) r (e .if1 .taken) _ refl (says-answers said refl (phase-stays _ _) (s .pre) _))
 
 returns-2 : tie.Need-returns-2
 returns-2 c =
@@ -25,4 +26,4 @@ returns-2 c =
     rw (c .malformed .ensures) (replies-ill (now (a .run)) (a .p) r (c .before .if1 .left) (s .pre))
 
 pub phase-reply-spec : {M : Type 1} → statement M
-phase-reply-spec = tie.close (tie.spec (λ c κs. search needs) (λ c κs. search needs) (λ c κs. search needs) returns (λ c κs. search needs) returns-2)
+phase-reply-spec = tie.close (tie.spec (λ c κs. search needs) (λ c κs. search needs) (λ c κs. search needs) (λ c κs. search needs) returns (λ c κs. search needs) returns-2)

@@ -2,17 +2,21 @@
 use mathlib.Core.Path.{refl}
 use native.Mathlib.Omega.{arith}
 use borrow.Author.Needs.{needs}
+use Rattle.evaluate.specs.Values.{placeAnswer}
+use Rattle.oracle.specs.Numbers.{answerNumbers}
 use Rattle.oracle.proofs.values.place_says.Statement.{statement}
 use Rattle.oracle.proofs.values.place_says.Tie as tie
 
 returns : tie.Need-returns
+unfolding answerNumbers placeAnswer
 returns c =
-    record { long = refl; short = omega arith; numbers-are = rw (c .before .v .given .1); next-is = refl; player-is = refl }
+    record { long = refl; short = omega arith; numbers-are = rw (c .before .v .given .1) }
 
 returns-2 : tie.Need-returns-2
+unfolding answerNumbers placeAnswer
 returns-2 c =
     let told = c .before .before .before .v2 .given .1 in
-    record { long = refl; short = omega arith; numbers-are = rw (told, c .before .bits .ensures, c .bits2 .ensures); next-is = refl; player-is = refl }
+    record { long = refl; short = omega arith; numbers-are = rw (told, c .before .bits .ensures, c .bits2 .ensures) }
 
 pub place-says-spec : {M : Type 1} → statement M
 place-says-spec =

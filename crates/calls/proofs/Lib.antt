@@ -1,0 +1,4 @@
+pub mod Answers
+pub mod Blocks
+pub mod Played
+pub mod Buses

@@ -1,0 +1,4 @@
+pub mod Traces
+pub mod Players
+pub mod Frames
+pub mod Limits
