@@ -1,4 +1,4 @@
--- A shape and a path as a call hands them in: `count` points, of which an array holds the first 64, and the numbers supplied with them. Of a code that question 1 refuses
+-- A shape and a path as a call hands them in: `count` points, of which an array holds the first 64, and the legs supplied with a path. Of a code that question 1 refuses
 -- nothing is meant: it counts as absent, or as no. Assumes nothing.
 use Prim.Native.Nat.{ℕ, min}
 use mathlib.Core.Bool.{Bool, cond}
@@ -39,19 +39,18 @@ noMod = record { code = 0; bus = 0; depth = nan }
 abbrev pub noPointCodes : PointCodes
 noPointCodes = record { x = nan; y = nan; curve = nan; step = 0; «x_mod» = noMod; «y_mod» = noMod }
 
--- a point with its strength
-unfoldable pub pointOf : PointCodes → Float → Point
-pointOf c e = record { x = c .x; y = c .y; curve = c .curve; strength = e; step = isYes (c .step); «x_mod» = modOf (c .«x_mod»); «y_mod» = modOf (c .«y_mod») }
+unfoldable pub pointOf : PointCodes → Point
+pointOf c = record { x = c .x; y = c .y; curve = c .curve; step = isYes (c .step); «x_mod» = modOf (c .«x_mod»); «y_mod» = modOf (c .«y_mod») }
 
--- the first n points, each with its strength
-unfoldable pub givenPoints : List PointCodes → List Float → ℕ → List Point
-givenPoints points strengths n = padded 64 blank (tabulate (λ i. pointOf (getD points i noPointCodes) (getD strengths i nan)) n)
+-- the first n points
+unfoldable pub givenPoints : List PointCodes → ℕ → List Point
+givenPoints points n = padded 64 blank (tabulate (λ i. pointOf (getD points i noPointCodes)) n)
 
 unfoldable pub loopbackOf : LoopbackCodes → Loopback
 loopbackOf c = cond (isYes (c .code)) (Loopback.At (c .index)) Loopback.None
 
-unfoldable pub givenShape : List PointCodes → ℕ → LoopbackCodes → List Float → Shape
-givenShape points count loopback strengths = withLoopback (newShape (givenPoints points strengths (min count 64)) count) (loopbackOf loopback)
+unfoldable pub givenShape : List PointCodes → ℕ → LoopbackCodes → Shape
+givenShape points count loopback = withLoopback (newShape (givenPoints points (min count 64)) count) (loopbackOf loopback)
 
 -- ---- a path
 

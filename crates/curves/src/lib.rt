@@ -1,4 +1,4 @@
-// A shape and a path as a call hands them in: points as codes and numbers, with the strengths of their bends and the lengths of their legs.
+// A shape and a path as a call hands them in: points as codes and numbers, and with a path the lengths of its legs.
 use path::Path;
 use path::PathPoint;
 use points::MAX_POINTS;
@@ -69,9 +69,8 @@ fn mod_of(c: ModCodes) -> PointMod
 
 // ---- a shape
 
-// A point with the strength of the bend after it.
-fn point_of(c: PointCodes, strength: f32) -> Point
-    ensures { λ r. ⌜ r ≡ pointOf c strength ⌝ }
+fn point_of(c: PointCodes) -> Point
+    ensures { λ r. ⌜ r ≡ pointOf c ⌝ }
 {
     let x_codes = c.x_mod;
     let y_codes = c.y_mod;
@@ -82,7 +81,6 @@ fn point_of(c: PointCodes, strength: f32) -> Point
         x: c.x,
         y: c.y,
         curve: c.curve,
-        strength,
         step,
         x_mod,
         y_mod,
@@ -97,20 +95,16 @@ fn blank_points() -> [Point; MAX_POINTS]
     [blank; MAX_POINTS]
 }
 
-// The first `n` points, each with its strength. Blank points follow.
-fn given_points(
-    points: [PointCodes; MAX_POINTS],
-    strengths: &[f32],
-    n: usize,
-) -> [Point; MAX_POINTS]
-    requires { ⌜ (n ≤ 64) × (n ≤ length (now strengths)) ⌝ }
-    ensures { λ r. ⌜ r ≡ givenPoints points (now (strengths .entry)) n ⌝ }
+// The first `n` points. Blank points follow.
+fn given_points(points: [PointCodes; MAX_POINTS], n: usize) -> [Point; MAX_POINTS]
+    requires { ⌜ n ≤ 64 ⌝ }
+    ensures { λ r. ⌜ r ≡ givenPoints points n ⌝ }
 {
     let mut out = blank_points();
     let mut i = 0;
     while i < n {
         let c = points[i];
-        out[i] = point_of(c, strengths[i]);
+        out[i] = point_of(c);
         i += 1;
     }
     out
@@ -126,17 +120,11 @@ fn loopback_of(c: LoopbackCodes) -> Loopback
     }
 }
 
-// A shape of `count` points: the first 64 of them, `points` begins with those, and `strengths` has one for each.
-pub fn shape_of(
-    points: [PointCodes; MAX_POINTS],
-    count: usize,
-    loopback: LoopbackCodes,
-    strengths: &[f32],
-) -> Shape
-    requires { ⌜ min count 64 ≤ length (now strengths) ⌝ }
-    ensures { λ r. ⌜ (r ≡ givenShape points count loopback (now (strengths .entry))) × (r .len ≤ 64) ⌝ }
+// A shape of `count` points: the first 64 of them, with which `points` begins.
+pub fn shape_of(points: [PointCodes; MAX_POINTS], count: usize, loopback: LoopbackCodes) -> Shape
+    ensures { λ r. ⌜ (r ≡ givenShape points count loopback) × (r .len ≤ 64) ⌝ }
 {
-    let given = given_points(points, strengths, points::kept(count));
+    let given = given_points(points, points::kept(count));
     let at = loopback_of(loopback);
     Shape::new(given, count).set_loopback(at)
 }

@@ -3,3 +3,4 @@ pub mod Tabulation
 pub mod Shift
 pub mod Inserted
 pub mod Over
+pub mod Everywhere

@@ -59,8 +59,8 @@ use Rattle.curves.specs.declared.PathPointCodes.{PathPointCodes}
 use Rattle.curves.specs.declared.LoopbackCodes.{LoopbackCodes}
 use Rattle.curves.specs.Given.{isYes, modOf, noPointCodes, noPathPointCodes, pointOf, givenPoints, loopbackOf}
 use Rattle.questions.specs.declared.RestartCodes.{RestartCodes}
-use Rattle.questions.specs.Limits.{f32-1/16, f32-16, f64-64, f64-1000, f64-768000, f64-2147483647, f64-minus2147483648}
-use Rattle.questions.specs.Tests.{every, everyOf, between, strengthIn, legIn, rateFinite, spanFinite, smoothFinite, settingsFinite, smoothIn, modFinite, pointFinite, pathPointFinite, transportFinite, transportIn, loopbackBelow}
+use Rattle.questions.specs.Limits.{f64-64, f64-1000, f64-768000, f64-2147483647, f64-minus2147483648}
+use Rattle.questions.specs.Tests.{every, everyOf, between, legIn, rateFinite, spanFinite, smoothFinite, settingsFinite, smoothIn, modFinite, pointFinite, pathPointFinite, transportFinite, transportIn, loopbackBelow, pointOnGrid}
 use Rattle.questions.specs.Questions.{Question, firstNo, settingsQuestions, shapeQuestions, pathQuestions, busQuestions, phaseQuestions, blockQuestions}
 use Rattle.questions.proofs.Laws.{and-true, three, five, seven}
 
@@ -248,19 +248,18 @@ mod-finite c = at (eqb (c .code) 1)
     at true h = yes-so h
     at false h = tt
 
-point-finite : (c : PointCodes) (e : Float) → pointFinite c ≡ true → FinitePoint (pointOf c e)
+point-finite : (c : PointCodes) → pointFinite c ≡ true → FinitePoint (pointOf c)
 unfolding pointFinite pointOf
-point-finite c e h =
+point-finite c h =
     let all = five (finite (c .x)) (finite (c .y)) (finite (c .curve)) (modFinite (c .«x_mod»)) (modFinite (c .«y_mod»)) h in
     (yes-so (all .0), yes-so (all .1), yes-so (all .2), mod-finite (c .«x_mod») (all .3), mod-finite (c .«y_mod») (all .4))
 
-pub record ShapeAccepted (others : Bool) (points : List PointCodes) (count : ℕ) (loopback : LoopbackCodes) (strengths : List Float) : Type 0 where
+pub record ShapeAccepted (others : Bool) (points : List PointCodes) (count : ℕ) (loopback : LoopbackCodes) : Type 0 where
   pub others-finite : others ≡ true
-  pub points-finite : (k : ℕ) → k < min count 64 → FinitePoint (getD (givenPoints points strengths (min count 64)) k noPoint)
-  pub length-is : length strengths ≡ min count 64
+  pub points-finite : (k : ℕ) → k < min count 64 → FinitePoint (getD (givenPoints points (min count 64)) k noPoint)
   pub index-below : loopback .code ≡ 1 → loopback .index < min count 64
   pub loopback-kept : within (loopbackOf loopback) (min count 64) ≡ loopbackOf loopback
-  pub strengths-in : (k : ℕ) → k < min count 64 → Between f32-1/16 (getD strengths k nan) f32-16
+  pub points-on-grid : (k : ℕ) → k < min count 64 → pointOnGrid (getD points k noPointCodes) ≡ true
 
 index-in : (c : LoopbackCodes) (n : ℕ) → loopbackBelow c n ≡ true → c .code ≡ 1 → c .index < n
 index-in c n h e = ltb-true _ _ (rw (eq-eqb (c .code) 1 e) at h)
@@ -273,24 +272,21 @@ below-kept c n = at (eqb (c .code) 1)
     at true h = rw h
     at false h = refl
 
-pub shape-accepted : (others : Bool) (points : List PointCodes) (count : ℕ) (loopback : LoopbackCodes) (strengths : List Float)
-    → firstNo (shapeQuestions others points count loopback strengths) ≡ 0 → ShapeAccepted others points count loopback strengths
+pub shape-accepted : (others : Bool) (points : List PointCodes) (count : ℕ) (loopback : LoopbackCodes)
+    → firstNo (shapeQuestions others points count loopback) ≡ 0 → ShapeAccepted others points count loopback
 unfolding shapeQuestions givenPoints
-shape-accepted others points count loopback strengths h =
+shape-accepted others points count loopback h =
     let q1 = passed 0 _ _ h in
     let q2 = passed 1 _ _ (q1 .1) in
-    let q3 = passed 2 _ _ (q2 .1) in
-    let q4 = passed 3 _ _ (q3 .1) in
-    let q5 = passed 4 _ _ (q4 .1) in
-    let floats = three (every (λ k. pointFinite (getD points k noPointCodes)) (min count 64)) (everyOf finite strengths) others (q2 .0) in
-    let size : length strengths ≡ min count 64 = eqb-true _ _ (q3 .0) in
+    let q4 = passed 3 _ _ (q2 .1) in
+    let q10 = passed 9 _ _ (q4 .1) in
+    let floats = and-true (every (λ k. pointFinite (getD points k noPointCodes)) (min count 64)) others (q2 .0) in
     record {
-      others-finite = floats .2;
-      points-finite = λ k l. subst FinitePoint (sym (getD-padded _ 64 blank (min count 64) k noPoint l)) (point-finite _ _ (every-so _ _ (floats .0) k l));
-      length-is = size;
+      others-finite = floats .1;
+      points-finite = λ k l. subst FinitePoint (sym (getD-padded _ 64 blank (min count 64) k noPoint l)) (point-finite _ (every-so _ _ (floats .0) k l));
       index-below = λ e. index-in loopback (min count 64) (q4 .0) e;
       loopback-kept = below-kept loopback (min count 64) (q4 .0);
-      strengths-in = λ k l. between-so _ _ _ (every-so (λ i. strengthIn (getD strengths i nan)) _ (q5 .0) k (omega arith));
+      points-on-grid = λ k l. every-so _ _ (q10 .0) k l;
     }
 
 -- ---- a path

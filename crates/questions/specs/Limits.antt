@@ -4,12 +4,6 @@ use mathlib.Core.List.{List, [], _∷_}
 use lib.Ieee.{Float, binary32, binary64, ofBits, round, neg}
 use Rattle.floatlaws.specs.Numbers.{f32, f64}
 
-abbrev pub f32-1/16 : Float
-f32-1/16 = ofBits binary32 0x3d80_0000
-
-abbrev pub f32-16 : Float
-f32-16 = ofBits binary32 0x4180_0000
-
 abbrev pub f64-64 : Float
 f64-64 = ofBits binary64 0x4050_0000_0000_0000
 
@@ -27,10 +21,10 @@ abbrev pub f64-minus2147483648 : Float
 f64-minus2147483648 = neg (ofBits binary64 0x41e0_0000_0000_0000)
 
 written : List Float
-written = f32-1/16 ∷ f32-16 ∷ f64-64 ∷ f64-1000 ∷ f64-768000 ∷ f64-2147483647 ∷ f64-minus2147483648 ∷ []
+written = f64-64 ∷ f64-1000 ∷ f64-768000 ∷ f64-2147483647 ∷ f64-minus2147483648 ∷ []
 
 meant : List Float
-meant = f32 1 16 ∷ f32 16 1 ∷ f64 64 1 ∷ f64 1000 1 ∷ f64 768000 1 ∷ f64 2147483647 1 ∷ neg (f64 2147483648 1) ∷ []
+meant = f64 64 1 ∷ f64 1000 1 ∷ f64 768000 1 ∷ f64 2147483647 1 ∷ neg (f64 2147483648 1) ∷ []
 
 right : written ≡ meant
 unfolding written meant ofBits round neg

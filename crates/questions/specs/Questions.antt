@@ -15,7 +15,7 @@ use Rattle.curves.specs.declared.PathPointCodes.{PathPointCodes}
 use Rattle.curves.specs.declared.LoopbackCodes.{LoopbackCodes}
 use Rattle.curves.specs.Given.{isYes, noPointCodes, noPathPointCodes}
 use Rattle.questions.specs.declared.RestartCodes.{RestartCodes}
-use Rattle.questions.specs.Tests.{every, everyOf, pointKnown, pathPointKnown, settingsFinite, pointFinite, pathPointFinite, transportFinite, loopbackBelow, strengthIn, legIn, smoothIn, transportIn}
+use Rattle.questions.specs.Tests.{every, everyOf, pointKnown, pathPointKnown, settingsFinite, pointFinite, pathPointFinite, transportFinite, loopbackBelow, pointOnGrid, legIn, smoothIn, transportIn}
 
 -- a question's number, and whether the answer is yes
 abbrev pub Question : Type 0
@@ -31,13 +31,12 @@ unfoldable pub settingsQuestions : SettingsCodes → List Question
 settingsQuestions c = (1, settingsKnown c) ∷ (2, settingsFinite c) ∷ (5, smoothIn (c .smooth)) ∷ []
 
 -- Setting or evaluating a shape of `count` points, of which min count 64 are kept. `others` says of the call's other floats that they are finite.
-unfoldable pub shapeQuestions : Bool → List PointCodes → ℕ → LoopbackCodes → List Float → List Question
-shapeQuestions others points count loopback strengths =
+unfoldable pub shapeQuestions : Bool → List PointCodes → ℕ → LoopbackCodes → List Question
+shapeQuestions others points count loopback =
     (1, (every (λ k. pointKnown (getD points k noPointCodes)) (min count 64) && ltb (loopback .code) 2))
-    ∷ (2, (every (λ k. pointFinite (getD points k noPointCodes)) (min count 64) && everyOf finite strengths && others))
-    ∷ (3, eqb (length strengths) (min count 64))
+    ∷ (2, (every (λ k. pointFinite (getD points k noPointCodes)) (min count 64) && others))
     ∷ (4, loopbackBelow loopback (min count 64))
-    ∷ (5, everyOf strengthIn strengths)
+    ∷ (10, every (λ k. pointOnGrid (getD points k noPointCodes)) (min count 64))
     ∷ []
 
 -- setting or evaluating a path

@@ -12,11 +12,12 @@ use Rattle.settings.specs.declared.record.SmoothCodes.{SmoothCodes}
 use Rattle.settings.specs.declared.record.TransportCodes.{TransportCodes}
 use Rattle.settings.specs.declared.times.RateCodes.{RateCodes}
 use Rattle.settings.specs.declared.times.SpanCodes.{SpanCodes}
+use Rattle.bend.specs.Grid.{clampedCurve, onGrid}
 use Rattle.curves.specs.declared.ModCodes.{ModCodes}
 use Rattle.curves.specs.declared.PointCodes.{PointCodes}
 use Rattle.curves.specs.declared.PathPointCodes.{PathPointCodes}
 use Rattle.curves.specs.declared.LoopbackCodes.{LoopbackCodes}
-use Rattle.questions.specs.Limits.{f32-1/16, f32-16, f64-64, f64-1000, f64-768000, f64-2147483647, f64-minus2147483648}
+use Rattle.questions.specs.Limits.{f64-64, f64-1000, f64-768000, f64-2147483647, f64-minus2147483648}
 
 -- a test of 0, 1, .. n - 1
 unfoldable pub every : (ℕ → Bool) → ℕ → Bool
@@ -79,10 +80,12 @@ transportFinite c =
 abbrev pub loopbackBelow : LoopbackCodes → ℕ → Bool
 loopbackBelow c n = cond (eqb (c .code) 1) (ltb (c .index) n) true
 
--- ---- 5. "Is each bend strength within 1/16 to 16, each leg within 0 to 2, and the smoothing coefficient, if present, within 0 to 1"
+-- ---- 10. "A clamped curve off the grid is refused with 10"
 
-abbrev pub strengthIn : Float → Bool
-strengthIn e = between f32-1/16 e f32-16
+abbrev pub pointOnGrid : PointCodes → Bool
+pointOnGrid c = onGrid (clampedCurve (c .curve))
+
+-- ---- 5. "Is .. each leg within 0 to 2, and the smoothing coefficient, if present, within 0 to 1"
 
 abbrev pub legIn : Float → Bool
 legIn l = between f32-0 l f32-2

@@ -4,13 +4,15 @@ use mathlib.Core.Path.{_≡_, refl}
 use mathlib.Core.Bool.{true}
 use mathlib.Core.List.{List, [], _∷_}
 use lib.ListN.{replicate}
-use lib.Ieee.{Float, nan, neg, ofBits, le}
+use lib.Ieee.{Float, nan, neg, lt, ofBits, round, le}
 use lib.Ieee.Scale.{finite}
-use Rattle.floatlaws.specs.Numbers.{f32-0, f32-1, f32-100, f64-0, f64-4, f64-120}
+use Rattle.floatlaws.specs.Numbers.{f32-0, f32-1, f32-100, f64-0, f64-4, f64-120, f32}
+use Rattle.floatlaws.specs.Extrema.{clampOf}
+use Rattle.floatlaws.specs.Multiples.{isMultiple}
 use Rattle.settings.specs.declared.record.TransportCodes.{TransportCodes}
 use Rattle.settings.specs.Codes.{transportKnown}
 use Rattle.curves.specs.Given.{noMod}
-use Rattle.questions.specs.Limits.{f64-1000, f64-768000, f32-16}
+use Rattle.questions.specs.Limits.{f64-1000, f64-768000}
 use Rattle.questions.specs.Tests.{every, pointKnown, pointFinite, transportFinite, transportIn}
 use Rattle.questions.specs.Questions.{firstNo, shapeQuestions, busQuestions, blockQuestions}
 
@@ -49,18 +51,17 @@ first = refl
 
 -- ---- shapes
 
--- of so many points at 0, 0, with so many strengths of e, and a loopback at this index
-abbrev shape : ℕ → ℕ → Float → ℕ → ℕ
-shape count given e index =
+-- of so many points at 0, 0 with this curve, and a loopback at this index
+abbrev shape : ℕ → Float → ℕ → ℕ
+shape count curve index =
     firstNo
     (shapeQuestions true
-    (replicate 64 (record { x = f32-0; y = f32-0; curve = f32-0; step = 0; «x_mod» = noMod; «y_mod» = noMod }))
-    count (record { code = 1; index = index }) (replicate given e))
+    (replicate 64 (record { x = f32-0; y = f32-0; curve = curve; step = 0; «x_mod» = noMod; «y_mod» = noMod }))
+    count (record { code = 1; index = index }))
 
--- question 3 counts the points kept, and so does question 4
-kept : shape 2 2 f32-16 1 ∷ shape 2 2 f32-16 2 ∷ shape 2 3 f32-16 9 ∷ shape 70 64 f32-1 63 ∷ shape 70 70 f32-1 63 ∷ shape 2 2 f32-100 1 ∷ shape 2 3 nan 9 ∷ []
-    ≡ 0 ∷ 4 ∷ 3 ∷ 0 ∷ 3 ∷ 5 ∷ 2 ∷ []
-unfolding firstNo shapeQuestions every pointKnown pointFinite finite le ofBits
+-- question 4 counts the points kept, and question 10 comes after it; 100 is clamped to 1
+kept : shape 2 f32-1 1 ∷ shape 2 f32-1 2 ∷ shape 70 f32-1 63 ∷ shape 2 f32-100 1 ∷ shape 2 (f32 1 2048) 1 ∷ shape 2 (f32 1 2048) 9 ∷ shape 2 nan 9 ∷ [] ≡ 0 ∷ 4 ∷ 0 ∷ 0 ∷ 10 ∷ 4 ∷ 2 ∷ []
+unfolding firstNo shapeQuestions every pointKnown pointFinite isMultiple clampOf finite le lt neg ofBits round
 kept = refl
 
 -- ---- buses

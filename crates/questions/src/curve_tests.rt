@@ -14,7 +14,7 @@ ghost use lib.Dec.{ltb};
 ghost use lib.ListN.{getD};
 ghost use lib.Ieee.Scale.{finite};
 ghost use Rattle.curves.specs.Given.{noPointCodes, noPathPointCodes};
-ghost use Rattle.questions.specs.Tests.{every, everyOf, pointKnown, pathPointKnown, modFinite, pointFinite, pathPointFinite, loopbackBelow};
+ghost use Rattle.questions.specs.Tests.{every, everyOf, pointKnown, pathPointKnown, modFinite, pointFinite, pathPointFinite, loopbackBelow, pointOnGrid};
 
 fn mod_finite(c: ModCodes) -> bool
     ensures { λ r. ⌜ r ≡ modFinite c ⌝ }
@@ -57,13 +57,8 @@ pub fn shape_known(points: [PointCodes; MAX_POINTS], count: usize, loopback: Loo
 }
 
 // Question 2. `others`: the call's other floats are finite.
-pub fn shape_finite(
-    others: bool,
-    points: [PointCodes; MAX_POINTS],
-    count: usize,
-    strengths: &[f32],
-) -> bool
-    ensures { λ r. ⌜ r ≡ (every (λ k. pointFinite (getD points k noPointCodes)) (min count 64) && everyOf finite (now (strengths .entry)) && others) ⌝ }
+pub fn shape_finite(others: bool, points: [PointCodes; MAX_POINTS], count: usize) -> bool
+    ensures { λ r. ⌜ r ≡ (every (λ k. pointFinite (getD points k noPointCodes)) (min count 64) && others) ⌝ }
 {
     let n = points::kept(count);
     let mut all = true;
@@ -72,7 +67,22 @@ pub fn shape_finite(
         all = all & point_finite(points[i]);
         i += 1;
     }
-    all & finite_all(strengths) & others
+    all & others
+}
+
+// Question 10.
+pub fn shape_on_grid(points: [PointCodes; MAX_POINTS], count: usize) -> bool
+    ensures { λ r. ⌜ r ≡ every (λ k. pointOnGrid (getD points k noPointCodes)) (min count 64) ⌝ }
+{
+    let n = points::kept(count);
+    let mut all = true;
+    let mut i = 0;
+    while i < n {
+        let c = points[i];
+        all = all & bend::on_grid(c.curve);
+        i += 1;
+    }
+    all
 }
 
 // Whether a loopback point, if present, is one of `n` points.

@@ -8,6 +8,7 @@ use curve_tests::path_finite;
 use curve_tests::path_known;
 use curve_tests::shape_finite;
 use curve_tests::shape_known;
+use curve_tests::shape_on_grid;
 use curves::LoopbackCodes;
 use curves::PathPointCodes;
 use curves::PointCodes;
@@ -58,25 +59,21 @@ pub fn shape_answer(
     points: [PointCodes; MAX_POINTS],
     count: usize,
     loopback: LoopbackCodes,
-    strengths: &[f32],
 ) -> u8
-    ensures { λ r. ⌜ r ≡ firstNo (shapeQuestions others points count loopback (now (strengths .entry))) ⌝ }
+    ensures { λ r. ⌜ r ≡ firstNo (shapeQuestions others points count loopback) ⌝ }
 {
     let n = points::kept(count);
     if !shape_known(points, count, loopback) {
         return 1;
     }
-    if !shape_finite(others, points, count, strengths) {
+    if !shape_finite(others, points, count) {
         return 2;
-    }
-    if strengths.len() != n {
-        return 3;
     }
     if !loopback_below(loopback, n) {
         return 4;
     }
-    if !between_all(0.0625, strengths, 16.0) {
-        return 5;
+    if !shape_on_grid(points, count) {
+        return 10;
     }
     0
 }

@@ -15,8 +15,6 @@ pub struct Point {
     // The bend of the segment from this point to the next, -1 to 1; 0 is a straight line, and above 0 it starts slowly and
     // finishes fast.
     pub curve: f32,
-    // 2^(4 × curve), supplied with the point: 1/16 to 16.
-    pub strength: f32,
     // The segment from this point holds its value and jumps at the next point.
     pub step: bool,
     // Modulation of `x` and of `y`.
@@ -33,19 +31,17 @@ impl Point {
             x,
             y,
             curve: 0.0,
-            strength: 1.0,
             step: false,
             x_mod: PointMod::None,
             y_mod: PointMod::None,
         }
     }
 
-    // The same point with the segment after it bent by `curve`, of the given strength.
-    pub fn curve(mut self, curve: f32, strength: f32) -> Self
-        ensures { λ r. ⌜ r ≡ bentPoint self curve strength ⌝ }
+    // The same point with the segment after it bent by `curve`.
+    pub fn curve(mut self, curve: f32) -> Self
+        ensures { λ r. ⌜ r ≡ bentPoint self curve ⌝ }
     {
         self.curve = curve;
-        self.strength = strength;
         self
     }
 

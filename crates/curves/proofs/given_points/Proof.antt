@@ -1,4 +1,4 @@
--- `given_points` meets its contract. The loop's invariant: the first i points are there, each with its strength. Assumes nothing.
+-- `given_points` meets its contract. The loop's invariant: the first i points are there. Assumes nothing.
 use Prim.Native.Nat.{_-_, _≤_}
 use mathlib.Core.Path.{_≡_}
 use native.Mathlib.Numerals.{add-one}
@@ -12,10 +12,10 @@ use Rattle.curves.proofs.given_points.Statement.{statement}
 use Rattle.curves.proofs.given_points.Tie as tie
 
 abbrev Inv-loop : tie.InvT-loop
-Inv-loop strengths n points out₀ i₀ out i = (i ≤ n) × (out ≡ givenPoints points strengths i)
+Inv-loop n points out₀ i₀ out i = (i ≤ n) × (out ≡ givenPoints points i)
 
 abbrev μ-loop : tie.MeasureT-loop
-μ-loop strengths n points out₀ i₀ out i = n - i
+μ-loop n points out₀ i₀ out i = n - i
 
 loop-holds : tie.Need-loop-holds Inv-loop μ-loop
 unfolding givenPoints tabulate
@@ -25,12 +25,12 @@ loop-again : tie.Need-loop-again Inv-loop μ-loop
 unfolding givenPoints
 loop-again c = (
   omega arith,
-  rw (c .point-of .ensures, c .before .before .before .before .loop .inv .1, add-one) (fill-more _ 64 blank _ (omega arith)),
+  rw (c .point-of .ensures, c .before .before .before .loop .inv .1, add-one) (fill-more _ 64 blank _ (omega arith)),
 )
 
 returns : tie.Need-returns Inv-loop μ-loop
 returns c =
-    let e : c .before .loop .i ≡ c .before .before .before .before .args .n = omega arith in
+    let e : c .before .loop .i ≡ c .before .before .before .args .n = omega arith in
     rw (← e) (c .before .loop .inv .1)
 
 pub given-points-spec : {M : Type 1} → statement M
@@ -41,8 +41,6 @@ given-points-spec =
     μ-loop
     (λ c κs. search needs)
     loop-holds
-    (λ c. omega arith)
-    (λ c. omega arith)
     (λ c. omega arith)
     (λ c. omega arith)
     (λ c κs. search needs)

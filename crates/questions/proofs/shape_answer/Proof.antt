@@ -1,6 +1,5 @@
 -- `shape_answer` meets its contract. Assumes nothing.
 use borrow.Author.Needs.{needs}
-use borrow.Author.Tests.{ne-eqb, eq-eqb}
 use Rattle.questions.specs.Questions.{firstNo, shapeQuestions}
 use Rattle.questions.proofs.Laws.{no, yes}
 use Rattle.questions.proofs.shape_answer.Statement.{statement}
@@ -17,59 +16,41 @@ returns-2 c = let q1 = c .before .before in rw (yes (q1 .before .shape-known .en
 returns-3 : tie.Need-returns-3
 unfolding firstNo shapeQuestions
 returns-3 c =
-    let q2 = c .before in
+    let q2 = c .before .before in
     let q1 = q2 .before .before in
     rw (
       yes (q1 .before .shape-known .ensures) (q1 .if1 .left),
       yes (q2 .before .shape-finite .ensures) (q2 .if2 .left),
       ← q1 .before .before .kept .ensures,
-      ne-eqb _ _ (c .if3 .taken),
+      no (c .before .loopback-below .ensures) (c .if3 .taken),
     )
 
 returns-4 : tie.Need-returns-4
 unfolding firstNo shapeQuestions
 returns-4 c =
-    let q3 = c .before .before in
-    let q2 = q3 .before in
+    let q4 = c .before .before in
+    let q2 = q4 .before .before in
     let q1 = q2 .before .before in
     rw (
       yes (q1 .before .shape-known .ensures) (q1 .if1 .left),
       yes (q2 .before .shape-finite .ensures) (q2 .if2 .left),
+      no (c .before .shape-on-grid .ensures) (c .if4 .taken),
       ← q1 .before .before .kept .ensures,
-      eq-eqb _ _ (q3 .if3 .left),
-      no (c .before .loopback-below .ensures) (c .if4 .taken),
+      yes (q4 .before .loopback-below .ensures) (q4 .if3 .left),
     )
 
 returns-5 : tie.Need-returns-5
 unfolding firstNo shapeQuestions
 returns-5 c =
     let q4 = c .before .before in
-    let q3 = q4 .before .before in
-    let q2 = q3 .before in
+    let q2 = q4 .before .before in
     let q1 = q2 .before .before in
     rw (
       yes (q1 .before .shape-known .ensures) (q1 .if1 .left),
       yes (q2 .before .shape-finite .ensures) (q2 .if2 .left),
+      yes (c .before .shape-on-grid .ensures) (c .if4 .left),
       ← q1 .before .before .kept .ensures,
-      eq-eqb _ _ (q3 .if3 .left),
-      yes (q4 .before .loopback-below .ensures) (q4 .if4 .left),
-      no (c .before .between-all .ensures) (c .if5 .taken),
-    )
-
-returns-6 : tie.Need-returns-6
-unfolding firstNo shapeQuestions
-returns-6 c =
-    let q4 = c .before .before in
-    let q3 = q4 .before .before in
-    let q2 = q3 .before in
-    let q1 = q2 .before .before in
-    rw (
-      yes (q1 .before .shape-known .ensures) (q1 .if1 .left),
-      yes (q2 .before .shape-finite .ensures) (q2 .if2 .left),
-      ← q1 .before .before .kept .ensures,
-      eq-eqb _ _ (q3 .if3 .left),
-      yes (q4 .before .loopback-below .ensures) (q4 .if4 .left),
-      yes (c .before .between-all .ensures) (c .if5 .left),
+      yes (q4 .before .loopback-below .ensures) (q4 .if3 .left),
     )
 
 pub shape-answer-spec : {M : Type 1} → statement M
@@ -81,9 +62,8 @@ shape-answer-spec =
     returns
     (λ c κs. search needs)
     returns-2
+    (λ c κs. search needs)
     returns-3
     (λ c κs. search needs)
     returns-4
-    (λ c κs. search needs)
-    returns-5
-    returns-6)
+    returns-5)

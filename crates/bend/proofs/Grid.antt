@@ -1,0 +1,111 @@
+-- What the proofs of `on_grid` and `grid_index` cite: 1024 times a clamped curve is exact in an `f64`, so that its whole part and what is left are those of the definitions. Assumes nothing.
+use mathlib.Core.Path.{_≡_, refl, sym, ap, _∙_, subst}
+use mathlib.Core.Logic.{_⊎_, inl, inr}
+use mathlib.Core.Bool.{Bool, true, false, not, _&&_, _||_, Bool·beq, cond}
+use Prim.Native.Nat.{ℕ, _+_, _-_, _*_, _/_, _%_, _^_, _≤_, _<_, zero-le, min}
+use native.Mathlib.Nat.{le-trans, le-of-eq, lt-of-lt-of-le, lt-of-le-of-lt, zero-lt-suc, mul-one, mul-assoc, mul-right-comm, add-zero, mul-mod-left, div-add-mod', div-le-of-le-mul}
+use native.Mathlib.Omega.{arith}
+use lib.IntN.{ℤ, pos}
+use lib.Dec.{T, eqb, eqb→eq, lit≤}
+use lib.Pow.{pow-add, shl-lt}
+use lib.Ieee.{Float, nan, inf, fin, binary32, binary64, up, down, level, round, neg, mul, lt, eq, le, fits, isNan, ofBits, toUnsigned}
+use lib.Ieee.Fits.{and-l, and-i, eq→eqb, down-pos, mul-fits, cond-fits, neg-fits}
+use lib.Ieee.Bits.{ofBits-fits}
+use lib.Ieee.Exact.{HasValue, round-exact}
+use lib.Ieee.Nearest.{div-same}
+use Rattle.floatlaws.specs.Extrema.{clampOf}
+use Rattle.floatlaws.specs.Whole.{wholeOf, toZero}
+use Rattle.floatlaws.specs.Numbers.{f32-1, f32-minus1, f64-1024}
+use Rattle.floatlaws.proofs.Tests.{iff-same, or-l}
+use Rattle.floatlaws.proofs.Extrema.{clamp-bounds}
+use Rattle.floatlaws.specs.Size.{Sized}
+use Rattle.floatlaws.specs.Multiples.{isMultiple, multiplesIn}
+use Rattle.floatlaws.proofs.Size.{size-of-range}
+use Rattle.floatlaws.proofs.Unique.{fits-held, held-units}
+use Rattle.floatlaws.proofs.Values.{eq-by-value, neg-value, unlike-plus}
+use Rattle.floatlaws.proofs.Multiples.{is-whole, unsigned-value}
+use Rattle.bend.specs.Grid.{clampedCurve, onGrid, gridIndex}
+
+-- ---- the clamped curve: an `f32`, and a NaN or at most 1 in size
+
+clamped-fits : (curve : Float) → T (fits binary32 curve) → T (fits binary32 (clampedCurve curve))
+unfolding clampOf
+clamped-fits curve h =
+    let one = ofBits-fits binary32 0x3f80_0000 in
+    cond-fits binary32 (lt curve f32-minus1) f32-minus1 (cond (lt f32-1 curve) f32-1 curve) (neg-fits binary32 f32-1 one)
+    (cond-fits binary32 (lt f32-1 curve) f32-1 curve one h)
+
+within : (curve : Float) → T (not (isNan curve)) → Sized (clampedCurve curve) 1
+within curve h =
+    let b = clamp-bounds curve f32-minus1 f32-1 h (unfold le neg ofBits in tt) in
+    size-of-range f32-minus1 f32-1 1 (unfold neg ofBits in (refl, refl)) (unfold ofBits in (refl, refl)) (b .0) (b .1) .sized
+
+pub clamped-size : (curve : Float) → T (isNan (clampedCurve curve)) ⊎ Sized (clampedCurve curve) 1
+clamped-size nan = inl (unfold clampOf isNan lt neg ofBits in tt)
+clamped-size (inf s) = inr (within (inf s) (unfold isNan in tt))
+clamped-size (fin s m e) = inr (within (fin s m e) (unfold isNan in tt))
+
+-- ---- the product
+
+scale-is : f64-1024 ≡ fin false 1 (pos 10)
+unfolding ofBits
+scale-is = refl
+
+product-is : (s : Bool) (m : ℕ) (e : ℤ) → mul binary64 (fin s m e) f64-1024 ≡ round binary64 s (m * up e * 1024) (down e)
+product-is s m e =
+    ap (mul binary64 (fin s m e)) scale-is
+    ∙ unfold mul in
+    (ap (λ (u : Bool). round binary64 u (m * up e * 1024) (down e * 1)) (unlike-plus s) ∙ ap (round binary64 s (m * up e * 1024)) (mul-one (down e)))
+
+product-value : (s : Bool) (m : ℕ) (e : ℤ) → T (fits binary32 (fin s m e)) → HasValue (mul binary64 (fin s m e) f64-1024) s (m * up e * 1024) (down e)
+product-value s m e t =
+    let h = fits-held binary32 s m e t in
+    let u = held-units binary32 m e h in
+    let j = u .0 in
+    let n = m * up e in
+    subst (λ (y : Float). HasValue y s (n * 1024) (down e)) (sym (product-is s m e))
+    (round-exact binary64 s (n * 1024) (down e) m (j + 935) (down-pos e) (lt-of-lt-of-le (h .0) (lit≤ tt))
+    (lt-of-le-of-lt (le-of-eq (ap (λ (z : ℕ). m * z) (pow-add 2 j 935) ∙ sym (mul-assoc m (2 ^ j) (2 ^ 935)))) (lt-of-lt-of-le (shl-lt 277 935 (u .3)) (lit≤ tt)))
+    (mul-assoc n 1024 (2 ^ 1074)
+    ∙ sym (mul-assoc n (2 ^ 149) (2 ^ 935))
+    ∙ ap (λ (z : ℕ). z * 2 ^ 935) (u .2)
+    ∙ mul-right-comm (m * 2 ^ j) (down e) (2 ^ 935)
+    ∙ ap (λ (z : ℕ). z * down e) (mul-assoc m (2 ^ j) (2 ^ 935) ∙ ap (λ (z : ℕ). m * z) (sym (pow-add 2 j 935)))))
+
+-- ---- of a clamped curve x and 1024 times it: what `on_grid` tests, and what `grid_index` adds and takes off
+
+abbrev pub Read : Float → Float → Type 0
+Read x y =
+    (eq (wholeOf binary64 toZero y) y ≡ onGrid x)
+    × (toUnsigned 64 y ≤ 1024)
+    × (toUnsigned 64 (neg y) ≤ 1024)
+    × (1024 + toUnsigned 64 y - toUnsigned 64 (neg y) ≡ gridIndex x)
+
+signs : (s : Bool) (q a b : ℕ) → q ≤ 1024 → a ≡ cond s 0 q → b ≡ cond (not s) 0 q → (a ≤ 1024) × (b ≤ 1024) × (1024 + a - b ≡ cond s (1024 - q) (1024 + q))
+signs true q a b h k l = omega arith
+signs false q a b h k l = omega arith
+
+finite-read : (s : Bool) (m : ℕ) (e : ℤ) → T (fits binary32 (fin s m e)) → m * up e ≤ 1 * down e → Read (fin s m e) (mul binary64 (fin s m e) f64-1024)
+unfolding isMultiple gridIndex multiplesIn
+finite-read s m e t h =
+    let y = mul binary64 (fin s m e) f64-1024 in
+    let n = m * up e * 1024 in
+    let d = down e in
+    let D = down-pos e in
+    let v = product-value s m e t in
+    let N : n ≤ d * 1024 = omega arith in
+    let q = div-le-of-le-mul d N in
+    let u = le-trans q (lit≤ tt) in
+    let r = signs s (n / d) (toUnsigned 64 y) (toUnsigned 64 (neg y)) q (unsigned-value 64 y s n d D v u) (unsigned-value 64 (neg y) (not s) n d D (neg-value y s n d v) u) in
+    (is-whole binary64 y s n d D v (mul-fits binary64 (fin s m e) f64-1024), r .0, r .1, r .2)
+
+read : (x : Float) → T (fits binary32 x) → T (isNan x) ⊎ Sized x 1 → Read x (mul binary64 x f64-1024)
+unfolding isNan
+read nan t h = unfold mul wholeOf eq neg toUnsigned isMultiple gridIndex multiplesIn in (refl, zero-le, zero-le, refl)
+read (inf s) t (inl h) = absurd h
+read (inf s) t (inr h) = absurd h
+read (fin s m e) t (inl h) = absurd h
+read (fin s m e) t (inr h) = finite-read s m e t h
+
+pub curve-read : (curve : Float) → T (fits binary32 curve) → Read (clampedCurve curve) (mul binary64 (clampedCurve curve) f64-1024)
+curve-read curve t = read (clampedCurve curve) (clamped-fits curve t) (clamped-size curve)

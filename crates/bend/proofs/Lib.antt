@@ -1,0 +1,5 @@
+pub mod Rule
+pub mod Grid
+pub mod Pattern
+pub mod Powers
+pub mod Accuracy
