@@ -2,19 +2,21 @@
 use Prim.Native.Nat.{ℕ, _-_, _^_}
 use mathlib.Core.Path.{_≡_, refl}
 use mathlib.Core.Bool.{true}
-use mathlib.Core.List.{List, [], _∷_}
+use mathlib.Core.List.{List, [], _∷_, _++_}
 use lib.ListN.{replicate}
 use lib.Ieee.{Float, nan, neg, lt, ofBits, round, le}
 use lib.Ieee.Scale.{finite}
-use Rattle.floatlaws.specs.Numbers.{f32-0, f32-1, f32-100, f64-0, f64-4, f64-120, f32}
+use Rattle.floatlaws.specs.Numbers.{f32-0, f32-1, f32-2, f32-100, f64-0, f64-4, f64-120, f32}
 use Rattle.floatlaws.specs.Extrema.{clampOf}
 use Rattle.floatlaws.specs.Multiples.{isMultiple}
+use Rattle.path_segments.specs.Times.{segmentsOf}
 use Rattle.settings.specs.declared.record.TransportCodes.{TransportCodes}
 use Rattle.settings.specs.Codes.{transportKnown}
+use Rattle.curves.specs.declared.PointCodes.{PointCodes}
 use Rattle.curves.specs.Given.{noMod}
 use Rattle.questions.specs.Limits.{f64-1000, f64-768000}
-use Rattle.questions.specs.Tests.{every, pointKnown, pointFinite, transportFinite, transportIn}
-use Rattle.questions.specs.Questions.{firstNo, shapeQuestions, busQuestions, blockQuestions}
+use Rattle.questions.specs.Tests.{every, everyOf, pointKnown, pathPointKnown, pointFinite, pathPointFinite, transportFinite, transportIn}
+use Rattle.questions.specs.Questions.{firstNo, shapeQuestions, pathQuestions, busQuestions, blockQuestions}
 
 -- ---- blocks
 
@@ -51,18 +53,38 @@ first = refl
 
 -- ---- shapes
 
--- of so many points at 0, 0 with this curve, and a loopback at this index
+abbrev point : ℕ → Float → PointCodes
+point step curve = record { x = f32-0; y = f32-0; curve = curve; step = step; «x_mod» = noMod; «y_mod» = noMod }
+
+-- of so many points with this curve, and a loopback at this index
 abbrev shape : ℕ → Float → ℕ → ℕ
-shape count curve index =
-    firstNo
-    (shapeQuestions true
-    (replicate 64 (record { x = f32-0; y = f32-0; curve = curve; step = 0; «x_mod» = noMod; «y_mod» = noMod }))
-    count (record { code = 1; index = index }))
+shape count curve index = firstNo (shapeQuestions true (replicate 64 (point 0 curve)) count (record { code = 1; index = index }))
 
 -- question 4 counts the points kept, and question 10 comes after it; 100 is clamped to 1
 kept : shape 2 f32-1 1 ∷ shape 2 f32-1 2 ∷ shape 70 f32-1 63 ∷ shape 2 f32-100 1 ∷ shape 2 (f32 1 2048) 1 ∷ shape 2 (f32 1 2048) 9 ∷ shape 2 nan 9 ∷ [] ≡ 0 ∷ 4 ∷ 0 ∷ 0 ∷ 10 ∷ 4 ∷ 2 ∷ []
 unfolding firstNo shapeQuestions every pointKnown pointFinite isMultiple clampOf finite le lt neg ofBits round
 kept = refl
+
+-- of so many points, all straight but for the one after k of them, a step with a curve off the grid
+abbrev oddAfter : ℕ → ℕ → ℕ
+oddAfter k count = firstNo (shapeQuestions true (replicate k (point 0 f32-0) ++ point 1 (f32 1 2048) ∷ replicate (63 - k) (point 0 f32-0)) count (record { code = 0; index = 0 }))
+
+-- question 10 is put to each point that is kept, the first, the last and a step's, and to no other
+asked : oddAfter 0 3 ∷ oddAfter 2 3 ∷ oddAfter 3 3 ∷ oddAfter 63 70 ∷ oddAfter 63 63 ∷ [] ≡ 10 ∷ 10 ∷ 0 ∷ 10 ∷ 0 ∷ []
+unfolding firstNo shapeQuestions every pointKnown pointFinite isMultiple clampOf finite le lt neg ofBits round
+asked = refl
+
+-- ---- paths
+
+-- of two points, with so many legs of this length
+abbrev path : ℕ → ℕ → Float → ℕ
+path closed given leg =
+    firstNo (pathQuestions true (replicate 64 (record { x = f32-0; y = f32-0; bend = f32-0; «x_mod» = noMod; «y_mod» = noMod })) 2 closed (replicate given leg))
+
+-- an open one has one segment and a closed one two; a leg is at most 2
+legs : path 0 1 f32-2 ∷ path 1 2 f32-2 ∷ path 1 1 f32-2 ∷ path 0 1 f32-100 ∷ path 0 2 f32-100 ∷ path 0 2 nan ∷ path 2 2 nan ∷ [] ≡ 0 ∷ 0 ∷ 3 ∷ 5 ∷ 3 ∷ 2 ∷ 1 ∷ []
+unfolding firstNo pathQuestions segmentsOf every everyOf pathPointKnown pathPointFinite finite le neg ofBits
+legs = refl
 
 -- ---- buses
 
