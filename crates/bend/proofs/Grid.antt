@@ -45,6 +45,16 @@ clamped-size nan = inl (unfold clampOf isNan lt neg ofBits in tt)
 clamped-size (inf s) = inr (within (inf s) (unfold isNan in tt))
 clamped-size (fin s m e) = inr (within (fin s m e) (unfold isNan in tt))
 
+-- clamping twice is clamping once
+pub clamped-again : (curve : Float) → clampedCurve (clampedCurve curve) ≡ clampedCurve curve
+unfolding clampOf
+clamped-again curve = go (lt curve f32-minus1) (lt f32-1 curve) refl refl
+  where
+    go : (a b : Bool) → lt curve f32-minus1 ≡ a → lt f32-1 curve ≡ b → clampedCurve (clampedCurve curve) ≡ clampedCurve curve
+    go true b h k = rw h (unfold lt neg ofBits in refl)
+    go false true h k = rw (h, k) (unfold lt neg ofBits in refl)
+    go false false h k = rw (h, k) (rw (h, k) refl)
+
 -- ---- the product
 
 scale-is : f64-1024 ≡ fin false 1 (pos 10)
