@@ -32,7 +32,7 @@ read-is y-side p t n restart x y r x′ y′ m = ap (take n) (m .y-is)
 set-heard : (side : Side) (s : State) (c : Call) (cs : List Call) → Sets c → heard side s (c ∷ cs) ≡ cond (accepts s c) [] (heard side (step s c) cs)
 unfolding heard
 set-heard side s (settings c) cs e = refl
-set-heard side s (shape points n loopback es) cs e = refl
+set-heard side s (shape points n loopback) cs e = refl
 set-heard side s (path points n closed legs) cs e = refl
 set-heard side s (bus k z) cs e = refl
 set-heard side s (phase t) cs e = absurd e
@@ -41,7 +41,7 @@ set-heard side s (block t n restart x y) cs e = absurd e
 set-window : (s : State) (c : Call) (cs : List Call) → Sets c → window s (c ∷ cs) ≡ cond (accepts s c) [] (window (step s c) cs)
 unfolding window
 set-window s (settings c) cs e = refl
-set-window s (shape points n loopback es) cs e = refl
+set-window s (shape points n loopback) cs e = refl
 set-window s (path points n closed legs) cs e = refl
 set-window s (bus k z) cs e = refl
 set-window s (phase t) cs e = absurd e

@@ -97,7 +97,7 @@ none-pending c e = rw e
 full-accepted : (p : State) (c : Call) → carries c ≡ false → Full (p .voice) → Full (accepted p c .voice)
 unfolding accepted withShape withPath withBus
 full-accepted p (settings c) e f = full-set p (settingsAt c) f
-full-accepted p (shape points n loopback es) e f = f
+full-accepted p (shape points n loopback) e f = f
 full-accepted p (path points n closed legs) e f = f
 full-accepted p (bus k z) e f = f
 full-accepted p (phase t) e f = f

@@ -62,7 +62,7 @@ played-grid p TransportCode.Unknown n at g = g
 accepted-grid : (p : State) (c : Call) → GridIn c → StateGrid p → StateGrid (accepted p c)
 unfolding accepted withShape withPath withBus
 accepted-grid p (settings c) k g = set-grid p (settingsAt c) (known-grid c k) g
-accepted-grid p (shape points n loopback es) k g = g
+accepted-grid p (shape points n loopback) k g = g
 accepted-grid p (path points n closed legs) k g = g
 accepted-grid p (bus i z) k g = g
 accepted-grid p (phase t) k g = g

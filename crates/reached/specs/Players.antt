@@ -23,7 +23,7 @@ use Rattle.reached.specs.Traces.{History}
 -- a grid that is handed in is a u16 of the code
 abbrev pub GridIn : Call → Type 0
 GridIn (settings c) = c .«grid_x» < 2 ^ 16
-GridIn (shape points count loopback strengths) = Unit
+GridIn (shape points count loopback) = Unit
 GridIn (path points count closed legs) = Unit
 GridIn (bus k value) = Unit
 GridIn (phase t) = Unit
@@ -42,7 +42,7 @@ pub record Reached (p : Player) : Type 0 where
 -- "A restart is one that an accepted block carries"
 abbrev pub carries : Call → Bool
 carries (settings c) = false
-carries (shape points count loopback strengths) = false
+carries (shape points count loopback) = false
 carries (path points count closed legs) = false
 carries (bus k value) = false
 carries (phase t) = false

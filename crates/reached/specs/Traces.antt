@@ -19,7 +19,7 @@ use Rattle.player.specs.Readings.{readingAnswer, phaseAnswer}
 -- a call that sets settings, shape, path or a bus
 abbrev pub Sets : Call → Type 0
 Sets (settings c) = Unit
-Sets (shape points n loopback es) = Unit
+Sets (shape points n loopback) = Unit
 Sets (path points n closed legs) = Unit
 Sets (bus k z) = Unit
 Sets (phase t) = ⊥

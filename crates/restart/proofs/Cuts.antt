@@ -167,8 +167,8 @@ module _ (s : Settings) (q : Curve) (rate : Rate) (S : Standing s rate) where
   heard-plays side [] p d ev = (0, refl)
   heard-plays side (settings c ∷ cs) p d ev =
       edit-case side p (step p (settings c)) cs (accepts p (settings c)) (refused-player p (settings c)) d ev (heard-plays side cs)
-  heard-plays side (shape points n loopback es ∷ cs) p d ev =
-      edit-case side p (step p (shape points n loopback es)) cs (accepts p (shape points n loopback es)) (refused-player p (shape points n loopback es)) d ev (heard-plays side cs)
+  heard-plays side (shape points n loopback ∷ cs) p d ev =
+      edit-case side p (step p (shape points n loopback)) cs (accepts p (shape points n loopback)) (refused-player p (shape points n loopback)) d ev (heard-plays side cs)
   heard-plays side (path points n closed legs ∷ cs) p d ev =
       edit-case side p (step p (path points n closed legs)) cs (accepts p (path points n closed legs)) (refused-player p (path points n closed legs)) d ev (heard-plays side cs)
   heard-plays side (bus k z ∷ cs) p d ev =

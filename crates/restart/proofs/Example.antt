@@ -9,6 +9,7 @@ use lib.ListN.{length, getD, replicate}
 use lib.Ieee.{Float, nan, inf, ofBits, eq, lt, le}
 use Rattle.floatlaws.specs.Numbers.{f32-0, f32-½, f32-1, f64-0, f64-1, f64-4, f64-120}
 use Rattle.floatlaws.specs.Extrema.{clampOf}
+use Rattle.floatlaws.specs.Multiples.{isMultiple}
 use Rattle.listlaws.specs.Tables.{tabulate, lastWhere, inserted}
 use Rattle.shape.specs.Points.{clampedPoint, slotOf, insertPoint, sortedPoints, sortedArray}
 use Rattle.shape.specs.Shapes.{within, shapeOf, defaultShape}
@@ -158,10 +159,10 @@ noLoopback = record { code = 0; index = 99 }
 
 -- the points of the default shape, not in their order
 abbrev triangle : Call
-triangle = shape (point f32-1 f32-0 ∷ point f32-0 f32-0 ∷ point f32-½ f32-1 ∷ []) 3 noLoopback (f32-1 ∷ f32-1 ∷ f32-1 ∷ [])
+triangle = shape (point f32-1 f32-0 ∷ point f32-0 f32-0 ∷ point f32-½ f32-1 ∷ []) 3 noLoopback
 
 abbrev line : Call
-line = shape (point f32-0 f32-1 ∷ []) 1 noLoopback (f32-1 ∷ [])
+line = shape (point f32-0 f32-1 ∷ []) 1 noLoopback
 
 abbrev pub never : RestartCodes
 never = record { code = 0; frame = 99 }
@@ -212,7 +213,7 @@ restart₁ =
     record { before = before₁; transport = here; frames = 4; restart = at 1; x = room; y = room; rest = rest₁; here = refl; accepted = refl; carried = refl }
 
 pub restart₂ : RestartIn (made other 2) calls₂
-unfolding after step answer questions firstNo settingsQuestions blockQuestions busQuestions settingsKnown settingsFinite transportKnown transportFinite transportIn settingsAt withSwitches withSpans rateAt spanAt smoothAt transportAt scaleAt accepted playedState withBus made newState lib.Ieee.neg le lt eq ofBits shapeQuestions phaseQuestions every pointKnown pointFinite withSettings withShape pendingOf
+unfolding after step answer questions firstNo settingsQuestions blockQuestions busQuestions settingsKnown settingsFinite transportKnown transportFinite transportIn settingsAt withSwitches withSpans rateAt spanAt smoothAt transportAt scaleAt accepted playedState withBus made newState lib.Ieee.neg le lt eq ofBits shapeQuestions phaseQuestions every pointKnown pointFinite isMultiple clampOf withSettings withShape pendingOf
 restart₂ =
     record { before = before₂; transport = there; frames = 0; restart = at 7; x = room; y = room; rest = rest₂; here = refl; accepted = refl; carried = refl }
 
@@ -220,7 +221,7 @@ not-held : Drawn ≡ SampleAndHold → ⊥
 not-held e = let z : _≡_ {A = ℕ} 0 1 = cc in omega arith
 
 met : Hypotheses (atRestart (made drawn 1) calls₁ restart₁) (atRestart (made other 2) calls₂ restart₂) (rateOf here)
-unfolding restart₁ restart₂ throughout window after step answer questions firstNo settingsQuestions blockQuestions busQuestions settingsKnown settingsFinite transportKnown transportFinite transportIn settingsAt withSwitches withSpans rateAt spanAt smoothAt transportAt scaleAt accepted playedState withBus made newState lib.Ieee.neg le lt eq ofBits shapeQuestions phaseQuestions every pointKnown pointFinite withSettings withShape pendingOf clampedSettings clampedRate clampedSpan movedBuses givenShape givenPoints pointOf modOf loopbackOf within shapeOf sortedArray sortedPoints insertPoint slotOf clampedPoint tabulate lastWhere inserted defaultShape clampOf
+unfolding restart₁ restart₂ throughout window after step answer questions firstNo settingsQuestions blockQuestions busQuestions settingsKnown settingsFinite transportKnown transportFinite transportIn settingsAt withSwitches withSpans rateAt spanAt smoothAt transportAt scaleAt accepted playedState withBus made newState lib.Ieee.neg le lt eq ofBits shapeQuestions phaseQuestions every pointKnown pointFinite isMultiple withSettings withShape pendingOf clampedSettings clampedRate clampedSpan movedBuses givenShape givenPoints pointOf modOf loopbackOf within shapeOf sortedArray sortedPoints insertPoint slotOf clampedPoint tabulate lastWhere inserted defaultShape clampOf
 met =
     record {
       mode = inl refl;
@@ -244,7 +245,7 @@ five x-side = refl
 five y-side = refl
 
 four : (side : Side) → length (framesFrom (made other 2) calls₂ restart₂ side) ≡ 4
-unfolding restart₂ framesFrom heard read buffer played values partsOuts outs after step answer questions firstNo settingsQuestions blockQuestions busQuestions settingsKnown settingsFinite transportKnown transportFinite transportIn settingsAt withSwitches withSpans rateAt spanAt smoothAt transportAt scaleAt accepted playedState withBus made newState lib.Ieee.neg le lt eq ofBits shapeQuestions phaseQuestions every pointKnown pointFinite withSettings withShape pendingOf
+unfolding restart₂ framesFrom heard read buffer played values partsOuts outs after step answer questions firstNo settingsQuestions blockQuestions busQuestions settingsKnown settingsFinite transportKnown transportFinite transportIn settingsAt withSwitches withSpans rateAt spanAt smoothAt transportAt scaleAt accepted playedState withBus made newState lib.Ieee.neg le lt eq ofBits shapeQuestions phaseQuestions every pointKnown pointFinite isMultiple clampOf withSettings withShape pendingOf
 four x-side = refl
 four y-side = refl
 

@@ -47,10 +47,10 @@ pub default-shape : KeptShape defaultShape
 unfolding defaultShape
 default-shape = record { blanks = refl }
 
-pub given-shape : (points : List PointCodes) (count : ℕ) (loopback : LoopbackCodes) (strengths : List Float) → KeptShape (givenShape points count loopback strengths)
+pub given-shape : (points : List PointCodes) (count : ℕ) (loopback : LoopbackCodes) → KeptShape (givenShape points count loopback)
 unfolding givenShape shapeOf sortedArray
-given-shape points count loopback strengths =
-    let l = givenPoints points strengths (min count 64) in
+given-shape points count loopback =
+    let l = givenPoints points (min count 64) in
     record { blanks = blanked blank (sortedPoints l (min count 64)) (min count 64) (length-sorted l (min count 64)) }
 
 path-of : (points : List PathPoint) (count : ℕ) (closed : _) (legs : List Float) → KeptPath (pathOf points count closed legs)

@@ -94,7 +94,7 @@ module _ (from : State) (calls : List Call) (r : RestartIn from calls) where
 abbrev pub Restarts : Mode → Type 0
 Restarts mode = (mode ≡ Restart) ⊎ (mode ≡ OneShot)
 
--- "after the clamping, keeping and sorting ruled here": of a stored shape the points that are kept, each with its strength "at its point's place after the sorting"
+-- "after the clamping, keeping and sorting ruled here": of a stored shape the points that are kept; their curves give the strengths
 pub record SameShape (a b : Shape) : Type 0 where
   pub count : a .len ≡ b .len
   pub points : take (a .len) (a .points) ≡ take (b .len) (b .points)
@@ -107,7 +107,8 @@ pub record SamePath (p q : Path) : Type 0 where
   pub closed : p .closed ≡ q .closed
   pub times : p .times ≡ q .times
 
--- "the two players have equal settings, curve, supplied numbers and stored buses"
+-- "the two players have equal settings, curve, supplied numbers and stored buses". The supplied numbers are the legs of the path, and the smoothing coefficient, which is one of
+-- the settings.
 pub record Equal (p q : State) : Type 0 where
   pub settings : p .lfo .settings ≡ q .lfo .settings
   pub shape : SameShape (p .lfo .shape) (q .lfo .shape)
