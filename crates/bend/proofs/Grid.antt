@@ -1,28 +1,26 @@
 -- What the proofs of `on_grid` and `grid_index` cite: 1024 times a clamped curve is exact in an `f64`, so that its whole part and what is left are those of the definitions. Assumes nothing.
 use mathlib.Core.Path.{_≡_, refl, sym, ap, _∙_, subst}
 use mathlib.Core.Logic.{_⊎_, inl, inr}
-use mathlib.Core.Bool.{Bool, true, false, not, _&&_, _||_, Bool·beq, cond}
-use Prim.Native.Nat.{ℕ, _+_, _-_, _*_, _/_, _%_, _^_, _≤_, _<_, zero-le, min}
-use native.Mathlib.Nat.{le-trans, le-of-eq, lt-of-lt-of-le, lt-of-le-of-lt, zero-lt-suc, mul-one, mul-assoc, mul-right-comm, add-zero, mul-mod-left, div-add-mod', div-le-of-le-mul}
+use mathlib.Core.Bool.{Bool, true, false, not, cond}
+use Prim.Native.Nat.{ℕ, _+_, _-_, _*_, _/_, _^_, _≤_, zero-le}
+use native.Mathlib.Nat.{le-trans, le-of-eq, lt-of-lt-of-le, lt-of-le-of-lt, mul-one, mul-assoc, mul-right-comm, div-le-of-le-mul}
 use native.Mathlib.Omega.{arith}
 use lib.IntN.{ℤ, pos}
-use lib.Dec.{T, eqb, eqb→eq, lit≤}
+use lib.Dec.{T, lit≤}
 use lib.Pow.{pow-add, shl-lt}
-use lib.Ieee.{Float, nan, inf, fin, binary32, binary64, up, down, level, round, neg, mul, lt, eq, le, fits, isNan, ofBits, toUnsigned}
-use lib.Ieee.Fits.{and-l, and-i, eq→eqb, down-pos, mul-fits, cond-fits, neg-fits}
+use lib.Ieee.{Float, nan, inf, fin, binary32, binary64, up, down, round, neg, mul, lt, eq, le, fits, isNan, ofBits, toUnsigned}
+use lib.Ieee.Fits.{down-pos, mul-fits, cond-fits, neg-fits}
 use lib.Ieee.Bits.{ofBits-fits}
 use lib.Ieee.Exact.{HasValue, round-exact}
-use lib.Ieee.Nearest.{div-same}
 use Rattle.floatlaws.specs.Extrema.{clampOf}
 use Rattle.floatlaws.specs.Whole.{wholeOf, toZero}
 use Rattle.floatlaws.specs.Numbers.{f32-1, f32-minus1, f64-1024}
-use Rattle.floatlaws.proofs.Tests.{iff-same, or-l}
 use Rattle.floatlaws.proofs.Extrema.{clamp-bounds}
 use Rattle.floatlaws.specs.Size.{Sized}
 use Rattle.floatlaws.specs.Multiples.{isMultiple, multiplesIn}
 use Rattle.floatlaws.proofs.Size.{size-of-range}
 use Rattle.floatlaws.proofs.Unique.{fits-held, held-units}
-use Rattle.floatlaws.proofs.Values.{eq-by-value, neg-value, unlike-plus}
+use Rattle.floatlaws.proofs.Values.{neg-value, unlike-plus}
 use Rattle.floatlaws.proofs.Multiples.{is-whole, unsigned-value}
 use Rattle.bend.specs.Grid.{clampedCurve, onGrid, gridIndex}
 

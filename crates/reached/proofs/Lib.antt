@@ -6,3 +6,4 @@ pub mod Positions
 pub mod Fades
 pub mod Spans
 pub mod Steps
+pub mod Bends

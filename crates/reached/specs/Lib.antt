@@ -2,3 +2,4 @@ pub mod Traces
 pub mod Players
 pub mod Frames
 pub mod Limits
+pub mod Bends
