@@ -144,8 +144,7 @@ fn main() {
         return;
     }
     let loopback = LoopbackCodes { code: 0, index: 0 };
-    let strengths = [1.0f32; 2];
-    let shaped = player::set_shape(made.player, points(), 2, loopback, &strengths);
+    let shaped = player::set_shape(made.player, points(), 2, loopback);
     if refused(shaped.answer) {
         return;
     }
