@@ -257,7 +257,7 @@ impl Adverse {
         self.smooths.push(smooth);
     }
 
-    /// A call by its tag, accepted unless the song has gone out of range.
+    /// A call by its tag, accepted unless the song has gone out of range or a curve is off the grid.
     pub fn call(&mut self, tag: usize) -> (Call, f32) {
         let call = match tag {
             0 => {

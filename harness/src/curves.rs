@@ -1,6 +1,6 @@
 //! `shape` and `path` against lfo/shape.rs: every float of the segment found, its value, the unmodulated value, the coordinates, the times.
 use crate::ffi;
-use crate::lfo::{CURVE_RANGE, Lfo, MAX_POINTS, Path, PathPoint, Point, PointMod, Shape};
+use crate::lfo::{Lfo, MAX_POINTS, Path, PathPoint, Point, PointMod, Shape};
 use crate::tally::Tally;
 use crate::values::Values;
 
@@ -90,8 +90,7 @@ impl Packed {
     fn shape(points: &[Point]) -> Self {
         let mut packed = Self::default();
         for p in points {
-            let strength = (p.curve.clamp(-1.0, 1.0) * CURVE_RANGE).exp2();
-            packed.floats.extend([p.x, p.y, p.curve, strength]);
+            packed.floats.extend([p.x, p.y, p.curve]);
             packed.bytes.push(u8::from(p.step));
             packed.modulations(p.x_mod, p.y_mod);
         }
@@ -125,7 +124,11 @@ fn shape_points(v: &mut Values) -> Vec<Point> {
         points.push(Point {
             x,
             y: v.about(1.0),
-            curve: v.about(1.0) * v.of(&[1.0, -1.0, 0.0]),
+            curve: if v.one_in(16) {
+                v.off_grid()
+            } else {
+                v.curve()
+            },
             step: v.one_in(4),
             x_mod: v.modulation(),
             y_mod: v.modulation(),
@@ -172,7 +175,7 @@ fn one_shape(t: &mut Tally, v: &mut Values) {
         }
         t.f32(
             ffi::shape_value(floats, bytes, count, x),
-            shape.value(x),
+            Lfo::shape_at_(&shape, x),
             || format!("value at {x:e} of {}", input()),
         );
     }

@@ -1,8 +1,8 @@
 //! Adverse shapes and paths: no point to more than are kept, equal and nearly equal coordinates, zeros of both signs, modulation of any bus,
-//! strengths and legs that are the source's own or any others that are accepted.
+//! bends on the grid of 1/1024 and now and then off it, legs that are the source's own or any others that are accepted.
 use crate::adverse::Adverse;
 use crate::lfo::PathPoint;
-use crate::player::{bits, legs, strength};
+use crate::player::{bits, legs};
 use crate::run::{self, Mod, Path, Point, Present, Shape};
 
 impl Adverse {
@@ -51,15 +51,20 @@ impl Adverse {
         [self.modulation(), self.modulation()]
     }
 
+    /// A shape, which is refused where a curve is off the grid.
     pub fn shape(&mut self) -> Shape {
         let (mut xs, mut ys): (Vec<f32>, Vec<f32>) = (vec![], vec![]);
         let mut points = vec![];
+        let off = self.v.one_in(24);
         for _ in 0..self.points() {
             let (x, y) = (self.coordinate(&xs), self.coordinate(&ys));
             xs.push(x);
             ys.push(y);
-            let bend = self.v.about(1.0);
-            let curve = self.v.of(&[0.0, bend, -bend, 1.0, -1.0]);
+            let curve = if off && self.v.one_in(4) {
+                self.v.off_grid()
+            } else {
+                self.v.curve()
+            };
             points.push(Point {
                 x: bits(x),
                 y: bits(y),
@@ -69,14 +74,6 @@ impl Adverse {
             });
         }
         let kept = points.len().min(64);
-        let own = |p: &Point| bits(strength(f32::from_bits(p.curve)));
-        let mut strengths: Vec<u32> = points.iter().take(64).map(own).collect();
-        if self.v.one_in(8) {
-            for e in &mut strengths {
-                let any = 0.0625 + self.v.unit_f32() * self.v.of(&[1.0, 15.9375]);
-                *e = bits(self.v.of(&[0.0625, 16.0, 1.0, any, any, any]));
-            }
-        }
         if self.v.yes() {
             self.past_the_last(&mut points);
         }
@@ -85,11 +82,7 @@ impl Adverse {
         } else {
             Present::No
         };
-        Shape {
-            points,
-            loopback,
-            strengths,
-        }
+        Shape { points, loopback }
     }
 
     // No question looks at what is not kept.
@@ -97,7 +90,10 @@ impl Adverse {
         for p in points.iter_mut().skip(64) {
             p.step = self.v.code(2);
             p.x = self.v.word() as u32;
-            p.curve = self.v.of(&[bits(f32::NAN), bits(f32::INFINITY), p.curve]);
+            let off = bits(self.v.off_grid());
+            p.curve = self
+                .v
+                .of(&[bits(f32::NAN), bits(f32::INFINITY), off, p.curve]);
             p.mods[0] = Present::Unknown(2 + self.v.below(9));
         }
     }

@@ -58,6 +58,9 @@ on_numbers! {
     float_rem_euclid_f32(x: f32, y: f32) -> f32;
     float_rem_euclid_f64(x: f64, y: f64) -> f64;
 
+    bend_strength(curve: f32) -> f32;
+    bend_on_grid(curve: f32) -> bool;
+
     random_mix(seed: u64) -> u64;
     random_word(word: u64) -> u64;
     random_value(word: u64) -> f32;

@@ -1,8 +1,9 @@
 //! What the runs of a comparison tried, so that a reader sees that everything was tried.
-use crate::lfo::{LfoType, Mode, Rate, Settings, Span, Transport};
+use crate::bend::{source_strength, strength};
+use crate::lfo::{LfoType, MAX_POINTS, Mode, Rate, Settings, Span, Transport};
 use crate::player::Heard;
-use crate::questions::APPLY;
-use crate::run::{Block, Present};
+use crate::questions::{self, APPLY};
+use crate::run::{Block, Point, Present, Shape};
 use std::fmt;
 
 pub const CALLS: [&str; 9] = [
@@ -27,7 +28,12 @@ pub struct Figures {
     pub endings: [u64; 3],
     pub short: u64,
     /// Calls by tag and answer.
-    pub answers: [[u64; 10]; 9],
+    pub answers: [[u64; 11]; 9],
+    /// Calls by tag, answer and a later question that they fail too.
+    pairs: [[[u64; 11]; 11]; 9],
+    /// Accepted shapes with a curve that is clamped, with a strength that is not the source's, with a dropped point off the grid; refused ones of which
+    /// the 64th of more points alone is off it.
+    shapes: [u64; 4],
     /// Frames by kind and mode.
     kinds: [[u64; 3]; 5],
     /// Frames of shapes and paths by direction.
@@ -46,7 +52,7 @@ pub struct Figures {
     lengths: [u64; 5],
     finished: u64,
     nan: u64,
-    /// Blocks that `process_scalar` itself played too, and those with other supplied numbers than the source's.
+    /// Blocks that `process_scalar` itself played too, and those with other strengths, legs or coefficients than the source's.
     by_bank: u64,
     supplied: u64,
     pub bank_differed: u64,
@@ -114,6 +120,33 @@ impl Figures {
         );
     }
 
+    /// The questions that a call fails, in their order.
+    pub fn failed(&mut self, tag: usize, failed: &[u64]) {
+        if let [answer, later @ ..] = failed {
+            for n in later {
+                self.pairs[tag][*answer as usize][*n as usize] += 1;
+            }
+        }
+    }
+
+    /// A shape handed in, and the answer.
+    pub fn shape(&mut self, s: &Shape, answer: u64) {
+        let (kept, dropped) = s.points.split_at(s.points.len().min(MAX_POINTS));
+        let off = |p: &Point| !questions::on_grid(p.curve);
+        let curve = |p: &Point| f32::from_bits(p.curve);
+        let other = |p: &Point| {
+            let curve = curve(p).clamp(-1.0, 1.0);
+            strength(curve) != source_strength(curve)
+        };
+        let accepted = answer == 0;
+        let clamped = kept.iter().any(|p| curve(p).abs() > 1.0);
+        count(&mut self.shapes[0], accepted && clamped, 1);
+        count(&mut self.shapes[1], accepted && kept.iter().any(other), 1);
+        count(&mut self.shapes[2], accepted && dropped.iter().any(off), 1);
+        let last = !dropped.is_empty() && !kept[..MAX_POINTS - 1].iter().any(off);
+        count(&mut self.shapes[3], answer == 10 && last, 1);
+    }
+
     /// How many of a player's blocks the bank played too, and how often it gave other bits.
     pub fn bank(&mut self, blocks: u64, by_bank: u64, differed: u64) {
         self.by_bank += by_bank;
@@ -121,17 +154,42 @@ impl Figures {
         self.bank_differed += differed;
     }
 
+    /// Answers that did not come, and pairs of questions that no call failed both; question 8 is out of a run's reach.
     fn missing(&self) -> Vec<String> {
         let mut missing = vec![];
         for (tag, numbers) in APPLY.iter().enumerate() {
-            for n in std::iter::once(&0).chain(*numbers) {
-                // question 8 is out of a run's reach
-                if *n != 8 && self.answers[tag][*n as usize] == 0 {
-                    missing.push(format!("{} {n}", CALLS[tag]));
+            let name = CALLS[tag];
+            let numbers: Vec<usize> = numbers.iter().map(|n| *n as usize).collect();
+            for (i, n) in numbers.iter().enumerate().filter(|q| *q.1 != 8) {
+                if self.answers[tag][*n] == 0 {
+                    missing.push(format!("{name} {n}"));
                 }
+                for later in numbers[i + 1..].iter().filter(|n| **n != 8) {
+                    if self.pairs[tag][*n][*later] == 0 {
+                        missing.push(format!("{name} {n} with {later}"));
+                    }
+                }
+            }
+            if self.answers[tag][0] == 0 {
+                missing.push(format!("{name} 0"));
             }
         }
         missing
+    }
+
+    /// How often an answer came, and which later questions these calls fail too.
+    fn answer(&self, tag: usize, n: usize) -> String {
+        let also = |later: &usize| self.pairs[tag][n][*later] > 0;
+        let later: Vec<String> = (0..11)
+            .filter(also)
+            .map(|later| format!("{later}: {}", self.pairs[tag][n][later]))
+            .collect();
+        let count = self.answers[tag][n];
+        if later.is_empty() {
+            format!("{n}: {count}")
+        } else {
+            format!("{n}: {count} ({})", later.join(", "))
+        }
     }
 
     pub fn show(&self) {
@@ -151,14 +209,22 @@ impl fmt::Display for Figures {
             "  runs {}: played to the end {at_end}, making refused {refused}, malformed {malformed}; `out` too short in {}",
             self.runs, self.short
         )?;
-        writeln!(f, "  answers by call (0, then the number of the question):")?;
-        for (name, row) in CALLS.iter().zip(&self.answers) {
-            let counts: Vec<String> = (0..10)
-                .filter(|n| row[*n] > 0)
-                .map(|n| format!("{n}: {}", row[n]))
+        writeln!(
+            f,
+            "  answers by call (0, then the number of the question, with the later ones that these calls fail too):"
+        )?;
+        for (tag, name) in CALLS.iter().enumerate() {
+            let counts: Vec<String> = (0..11)
+                .filter(|n| self.answers[tag][*n] > 0)
+                .map(|n| self.answer(tag, n))
                 .collect();
             writeln!(f, "    {name:<9} {}", counts.join(", "))?;
         }
+        let [clamped, other, dropped, last] = self.shapes;
+        writeln!(
+            f,
+            "  shapes: curve clamped {clamped}, strength not the source's {other}, dropped point off the grid {dropped}, refused by the 64th of more points alone {last}"
+        )?;
         writeln!(f, "  frames by kind (Free, Restart, One-shot):")?;
         let kinds = ["Drawn", "Path", "Lorenz", "Rössler", "Sample-and-Hold"];
         for (name, row) in kinds.iter().zip(self.kinds) {
@@ -199,7 +265,7 @@ impl fmt::Display for Figures {
         )?;
         writeln!(
             f,
-            "  blocks that process_scalar itself played {} (other bits than the reference's: {}), with other supplied numbers than its own {}",
+            "  blocks that process_scalar itself played {} (other bits than the reference's: {}), with strengths, legs or a coefficient not its own {}",
             self.by_bank, self.bank_differed, self.supplied
         )
     }

@@ -11,6 +11,7 @@
 include!(concat!(env!("OUT_DIR"), "/source.rs"));
 
 mod adverse;
+mod bend;
 mod choices;
 mod clock;
 mod curves;
@@ -46,9 +47,10 @@ use values::Values;
 type Compare = fn(&mut Tally, &mut Values);
 
 /// Each subject with the number of values of a short run, which takes about a minute.
-const SUBJECTS: [(&str, Compare, u64); 7] = [
+const SUBJECTS: [(&str, Compare, u64); 8] = [
     ("floats", floats::compare, 50_000_000),
     ("generators", generators::compare, 30_000_000),
+    ("bend", bend::compare, 50_000_000),
     ("curves", curves::compare, 10_000_000),
     ("choices", choices::compare, 50_000_000),
     ("position", position::compare, 50_000_000),
@@ -61,8 +63,9 @@ const USAGE: &str = "usage: harness/run vectors chaos|curves
        harness/run show BYTES
        harness/run compare SUBJECT|all [COUNT] [SEED]
        harness/run compare runs [COUNT] [SEED] [FRAMES]
+       harness/run compare bend long
        harness/run compare runs long
-SUBJECT is floats, generators, curves, choices, position, clock or numbers; COUNT the least number of values of each.
+SUBJECT is floats, generators, bend, curves, choices, position, clock or numbers; COUNT the least number of values of each.
 BYTES are those of a run, in hexadecimal.
 Of runs, COUNT is the least number of runs and FRAMES of frames; run i has the seed SEED + i.";
 
@@ -117,6 +120,13 @@ fn compare(subject: &str, count: Option<u64>, seed: u64) -> bool {
     right
 }
 
+/// Compares `bend` on all 2^32 curves.
+fn every_curve() -> bool {
+    let mut tally = Tally::new("bend", 0, 1 << 32);
+    bend::compare_all(&mut tally);
+    tally.show()
+}
+
 /// Compares whole runs: COUNT, SEED, FRAMES.
 fn runs(words: &[&str]) -> bool {
     if !is_release() {
@@ -160,6 +170,7 @@ fn main() {
             shrunk::show(&bytes);
             true
         }
+        ["compare", "bend", "long"] => every_curve(),
         ["compare", "runs", "long"] => runs::compare_long(),
         ["compare", "runs", ref rest @ ..] => runs(rest),
         ["compare", subject] => compare(subject, None, 1),

@@ -2,6 +2,7 @@
 //! functions, because the module itself cannot be named from outside. A choice is opened as words, in the order of crates/exports: its code,
 //! then its fields, a float by its bits.
 use super::*;
+use crate::bend::strengths;
 use crate::player::{Heard, Supplied};
 
 // chaos.rs
@@ -42,10 +43,10 @@ impl LfoVoice {
     }
 }
 
-// shape.rs: segments by their floats, and their values
+// shape.rs: segments by their floats, and their values; a drawn one takes our strength
 impl Lfo {
     pub fn drawn_segment_(shape: &Shape, xs: &[f32], ys: &[f32], x: f32) -> ([f32; 7], f32) {
-        let s = drawn_segment(shape, xs, ys, x);
+        let s = strong_segment(shape, xs, ys, x);
         ([s.lo, s.hi, s.x0, s.inv_w, s.y0, s.dy, s.e], s.eval(x))
     }
     pub fn path_segment_(path: &Path, xs: &[f32], ys: &[f32], t: f32) -> ([f32; 10], (f32, f32)) {
@@ -173,7 +174,7 @@ impl Lfo {
         let (mut xs, mut ys) = ([0.0; MAX_POINTS], [0.0; MAX_POINTS]);
         shape.modulated(buses, &mut xs, &mut ys);
         let n = shape.len();
-        drawn_segment(shape, &xs[..n], &ys[..n], x).eval(x)
+        strong_segment(shape, &xs[..n], &ys[..n], x).eval(x)
     }
     pub fn path_moved_(path: &Path, buses: &[f32], t: f32) -> (f32, f32) {
         let (mut xs, mut ys) = ([0.0; MAX_POINTS], [0.0; MAX_POINTS]);
@@ -182,10 +183,10 @@ impl Lfo {
     }
 }
 
-// ---- a block with supplied numbers
+// ---- a block with our strengths and with supplied numbers
 //
 // The source computes the coefficient in `prepare`, a strength where a segment is found, and keeps the times of a path private to shape.rs. So
-// the block's coefficient is set, a segment found takes the supplied strength, and a path's segment is found by the supplied times here.
+// the block's coefficient is set, a segment found takes our strength, and a path's segment is found by the supplied times here.
 
 // A path's segment at t by the times that the supplied legs give. What holds a value does not depend on them; of the others, the source gives
 // the coefficients, by a path of the segment's two points.
@@ -206,13 +207,20 @@ fn supplied_segment(path: &Path, times: &[f32], xs: &[f32], ys: &[f32], t: f32) 
     }
 }
 
-// The supplied strength of the segment's first point, where the segment is a curve.
+// Our strength of the segment's first point, where the segment is a curve.
 fn strengthen(segment: &mut Segment, xs: &[f32], strengths: &[f32]) {
     if segment.inv_w != 0.0
         && let Some(i) = xs.iter().rposition(|x| *x <= segment.lo)
     {
         segment.e = strengths[i];
     }
+}
+
+// `drawn_segment` with our strength.
+fn strong_segment(shape: &Shape, xs: &[f32], ys: &[f32], x: f32) -> Segment {
+    let mut segment = drawn_segment(shape, xs, ys, x);
+    strengthen(&mut segment, xs, &strengths(shape));
+    segment
 }
 
 impl Lfo {
@@ -255,7 +263,7 @@ impl Lfo {
         }
     }
 
-    /// `process_scalar` with one voice, its few lines and those of `render_parts` written anew, so that supplied numbers can stand in for
+    /// `process_scalar` with one voice, its few lines and those of `render_parts` written anew, so that other numbers can stand in for
     /// computed ones: the block's coefficient, each segment's strength, and, where they are not the source's own, the times of the path.
     pub fn play_(
         &mut self,
@@ -281,13 +289,11 @@ impl Lfo {
         (block, heard)
     }
 
-    /// `Shape::value` with supplied strengths.
-    pub fn shape_at_(shape: &Shape, strengths: &[f32], x: f32) -> f32 {
+    /// `Shape::value` with our strengths.
+    pub fn shape_at_(shape: &Shape, x: f32) -> f32 {
         let xs: Vec<f32> = shape.points().iter().map(|p| p.x).collect();
         let ys: Vec<f32> = shape.points().iter().map(|p| p.y).collect();
-        let mut segment = drawn_segment(shape, &xs, &ys, x);
-        strengthen(&mut segment, &xs, strengths);
-        segment.eval(x)
+        strong_segment(shape, &xs, &ys, x).eval(x)
     }
 
     /// `Path::value` with the times that supplied legs give.

@@ -1,9 +1,10 @@
-//! The player by the Rust source: an `Lfo` and an `LfoVoice`, played by `Lfo::play_` (opened.rs), which takes the supplied numbers as they are
-//! handed in. As long as they are those that the source computes itself, an `LfoBank` with one voice gets the same calls and plays the same
-//! blocks by `process_scalar`, and both must give the same bits.
+//! The player by the Rust source: an `Lfo` and an `LfoVoice`, played by `Lfo::play_` (opened.rs), which takes our strengths (bend.rs), and legs
+//! and a coefficient as they are handed in. As long as these are what the source computes itself, an `LfoBank` with one voice gets the same
+//! calls and plays the same blocks by `process_scalar`, and both must give the same bits.
+use crate::bend::{source_strength, strengths};
 use crate::lfo::{
-    CURVE_RANGE, Division, Lfo, LfoBank, LfoVoice, MAX_POINTS, Path, PathPoint, Point, PointMod,
-    Rate, Scale, Settings, Shape, Span, Transport,
+    Division, Lfo, LfoBank, LfoVoice, MAX_POINTS, Path, PathPoint, Point, PointMod, Rate, Scale,
+    Settings, Shape, Span, Transport,
 };
 use crate::run::{self, Present};
 use crate::tally::bits32;
@@ -12,11 +13,11 @@ use crate::values::{DIRECTIONS, FEELS, KINDS, MODES};
 /// `LfoBank::new` adds it to the slot's seed for voice 0.
 const GOLDEN: u64 = 0x9E37_79B9_7F4A_7C15;
 
-/// What is handed in beside settings and curves.
+/// What stands in for numbers that the source computes.
 #[derive(Clone)]
 pub struct Supplied {
     pub smooth: Option<f32>,
-    /// One to each point of the shape, as the points are sorted.
+    /// Ours, one to each point of the shape, as the points are sorted.
     pub strengths: Vec<f32>,
     /// The times of the path's points, where its legs are not the source's own.
     pub times: Option<Vec<f32>>,
@@ -93,8 +94,7 @@ fn modulation(m: &Present<run::Mod>) -> Option<PointMod> {
     }
 }
 
-/// The shape, with its strengths as its points are sorted.
-pub fn shape_of(s: &run::Shape) -> (Shape, Vec<f32>) {
+pub fn shape_of(s: &run::Shape) -> Shape {
     let points: Vec<Point> = s
         .points
         .iter()
@@ -111,14 +111,7 @@ pub fn shape_of(s: &run::Shape) -> (Shape, Vec<f32>) {
     if let Present::Yes(i) = s.loopback {
         shape.set_loopback(Some(i as usize));
     }
-    // a stable sort by the clamped x
-    let mut order: Vec<(f32, f32)> = points
-        .iter()
-        .zip(&s.strengths)
-        .map(|(p, e)| (p.x.clamp(0.0, 1.0), f32::from_bits(*e)))
-        .collect();
-    order.sort_by(|a, b| a.0.partial_cmp(&b.0).expect("finite"));
-    (shape, order.into_iter().map(|p| p.1).collect())
+    shape
 }
 
 /// The path, with the times of its points where its legs are not the source's own.
@@ -139,11 +132,6 @@ pub fn path_of(path: &run::Path) -> (Path, Option<Vec<f32>>) {
     let times =
         (own.iter().copied().map(bits).ne(path.legs.iter().copied())).then(|| times(&path.legs));
     (made, times)
-}
-
-/// The strength that the source computes for a bend.
-pub fn strength(curve: f32) -> f32 {
-    (curve.clamp(-1.0, 1.0) * CURVE_RANGE).exp2()
 }
 
 /// The legs that the source computes for a path.
@@ -205,7 +193,7 @@ pub struct Player {
     pub lfo: Lfo,
     voice: LfoVoice,
     supplied: Supplied,
-    /// While all supplied numbers are the source's own.
+    /// While strengths, legs and coefficients are the source's own.
     bank: Option<LfoBank>,
     /// Blocks that the bank played too.
     pub by_bank: u64,
@@ -217,14 +205,16 @@ impl Player {
     /// A player; `smooth` is the setting that gave the coefficient, 0 where that is not known.
     pub fn new(s: &run::Settings, seed: u64, smooth: f32) -> Self {
         let slot = Lfo::new(settings_of(s, smooth), seed.wrapping_sub(GOLDEN));
+        let lfo = Lfo::new(settings_of(s, 0.0), seed);
+        let supplied = Supplied {
+            smooth: coefficient(s),
+            strengths: strengths(lfo.shape()),
+            times: None,
+        };
         Self {
-            lfo: Lfo::new(settings_of(s, 0.0), seed),
+            lfo,
             voice: LfoVoice::new(seed),
-            supplied: Supplied {
-                smooth: coefficient(s),
-                strengths: vec![1.0; 3],
-                times: None,
-            },
+            supplied,
             bank: Some(LfoBank::new(slot, 1)),
             by_bank: 0,
             bank_differed: 0,
@@ -240,16 +230,17 @@ impl Player {
     }
 
     pub fn set_shape(&mut self, s: &run::Shape) {
-        let (shape, strengths) = shape_of(s);
-        let own = shape.points().iter().map(|p| bits(strength(p.curve)));
-        if own.ne(strengths.iter().copied().map(bits)) {
+        let shape = shape_of(s);
+        let ours = strengths(&shape);
+        let own = shape.points().iter().map(|p| source_strength(p.curve));
+        if own.map(bits).ne(ours.iter().copied().map(bits)) {
             self.bank = None;
         }
         if let Some(bank) = &mut self.bank {
             *bank.lfo.shape_mut() = shape.clone();
         }
         *self.lfo.shape_mut() = shape;
-        self.supplied.strengths = strengths;
+        self.supplied.strengths = ours;
     }
 
     pub fn set_path(&mut self, p: &run::Path) {

@@ -1,12 +1,15 @@
-//! Document 01's questions to each call, in its order, written from its words. The first "no" gives the number; success is 0.
+//! The questions of documents 01 and 02 to each call, in their order, written from their words. The first "no" gives the number; success is 0.
 use crate::lfo::MAX_POINTS;
 use crate::run::{Block, Call, Mod, Path, Present, Rate, Scale, Settings, Shape, Span, Transport};
 
 /// The frames that a player may play in all.
 const FRAMES: u128 = 1 << 40;
 
-fn first_no(questions: &[(u64, bool)]) -> u64 {
-    questions.iter().find(|q| !q.1).map_or(0, |q| q.0)
+/// The numbers of the questions to a call, each with its answer.
+type Asked = Vec<(u64, bool)>;
+
+fn first_no(asked: &Asked) -> u64 {
+    asked.iter().find(|q| !q.1).map_or(0, |q| q.0)
 }
 
 // ---- 1: is each code known?
@@ -98,6 +101,15 @@ fn transport_finite(t: &Transport) -> bool {
     doubles.iter().all(|x| f64::from_bits(*x).is_finite()) && finite(t.swing) && percent
 }
 
+// ---- 10: is the clamped curve on the grid of 1/1024?
+
+/// Of a curve's bits; a NaN is not.
+pub fn on_grid(bits: u32) -> bool {
+    // the product is exact
+    let steps = f32::from_bits(bits).clamp(-1.0, 1.0) * 1024.0;
+    steps == steps.trunc()
+}
+
 // ---- 5 and 6: is it in range?
 
 fn within(bits: u32, lo: f32, hi: f32) -> bool {
@@ -115,20 +127,24 @@ fn in_range(t: &Transport) -> bool {
 
 // ---- the calls
 
-pub fn settings(s: &Settings) -> u64 {
+fn settings_asked(s: &Settings) -> Asked {
     let coefficient = match s.smooth {
         Present::Yes(a) => within(a, 0.0, 1.0),
         _ => true,
     };
-    first_no(&[
+    vec![
         (1, settings_known(s)),
         (2, settings_finite(s)),
         (5, coefficient),
-    ])
+    ]
+}
+
+pub fn settings(s: &Settings) -> u64 {
+    first_no(&settings_asked(s))
 }
 
 /// A shape, and a further float of the call.
-fn shape(s: &Shape, x: u32) -> u64 {
+fn shape(s: &Shape, x: u32) -> Asked {
     let kept = &s.points[..s.points.len().min(MAX_POINTS)];
     let codes = kept
         .iter()
@@ -141,13 +157,12 @@ fn shape(s: &Shape, x: u32) -> u64 {
         Present::Yes(i) => i < kept.len() as u64,
         _ => true,
     };
-    first_no(&[
+    vec![
         (1, codes),
-        (2, floats && all_finite(&s.strengths) && finite(x)),
-        (3, s.strengths.len() == kept.len()),
+        (2, floats && finite(x)),
         (4, loopback),
-        (5, s.strengths.iter().all(|e| within(*e, 1.0 / 16.0, 16.0))),
-    ])
+        (10, kept.iter().all(|p| on_grid(p.curve))),
+    ]
 }
 
 /// How many segments the kept points of a path have.
@@ -159,31 +174,31 @@ pub fn segments(points: usize, closed: u64) -> usize {
     }
 }
 
-fn path(p: &Path, t: u32) -> u64 {
+fn path(p: &Path, t: u32) -> Asked {
     let kept = &p.points[..p.points.len().min(MAX_POINTS)];
     let codes = yes_or_no(p.closed) && kept.iter().all(|p| p.mods.iter().all(is_known));
     let floats = kept
         .iter()
         .all(|p| all_finite(&[p.x, p.y, p.bend]) && mods_finite(&p.mods));
-    first_no(&[
+    vec![
         (1, codes),
         (2, floats && all_finite(&p.legs) && finite(t)),
         (3, p.legs.len() == segments(kept.len(), p.closed)),
         (5, p.legs.iter().all(|leg| within(*leg, 0.0, 2.0))),
-    ])
+    ]
 }
 
-fn phase(t: &Transport) -> u64 {
-    first_no(&[
+fn phase(t: &Transport) -> Asked {
+    vec![
         (1, transport_known(t)),
         (2, transport_finite(t)),
         (6, in_range(t)),
-    ])
+    ]
 }
 
-fn block(b: &Block, played: u64) -> u64 {
+fn block(b: &Block, played: u64) -> Asked {
     let t = &b.transport;
-    first_no(&[
+    vec![
         (1, transport_known(t) && is_known(&b.restart)),
         (2, transport_finite(t)),
         (6, in_range(t)),
@@ -192,16 +207,15 @@ fn block(b: &Block, played: u64) -> u64 {
             b.frames <= 4096 && b.x_len >= b.frames && b.y_len >= b.frames,
         ),
         (8, u128::from(played) + u128::from(b.frames) <= FRAMES),
-    ])
+    ]
 }
 
-/// The answer to a call on a player that has played so many frames.
-pub fn answer(call: &Call, played: u64) -> u64 {
+fn asked(call: &Call, played: u64) -> Asked {
     match call {
-        Call::Settings(s) => settings(s),
+        Call::Settings(s) => settings_asked(s),
         Call::Shape(s) => shape(s, 0),
         Call::Path(p) => path(p, 0),
-        Call::Bus { bus, value } => first_no(&[(2, finite(*value)), (9, *bus < 16)]),
+        Call::Bus { bus, value } => vec![(2, finite(*value)), (9, *bus < 16)],
         Call::Phase(t) => phase(t),
         Call::Block(b) => block(b, played),
         Call::ShapeAt { shape: s, x } => shape(s, *x),
@@ -209,15 +223,26 @@ pub fn answer(call: &Call, played: u64) -> u64 {
     }
 }
 
+/// The answer to a call on a player that has played so many frames.
+pub fn answer(call: &Call, played: u64) -> u64 {
+    first_no(&asked(call, played))
+}
+
+/// Every question that the call fails, in their order.
+pub fn failed(call: &Call, played: u64) -> Vec<u64> {
+    let asked = asked(call, played);
+    asked.iter().filter(|q| !q.1).map(|q| q.0).collect()
+}
+
 /// The questions that apply to making a player (place 8) and to the call of each tag.
 pub const APPLY: [&[u64]; 9] = [
     &[1, 2, 5],
-    &[1, 2, 3, 4, 5],
+    &[1, 2, 4, 10],
     &[1, 2, 3, 5],
     &[2, 9],
     &[1, 2, 6],
     &[1, 2, 6, 7, 8],
-    &[1, 2, 3, 4, 5],
+    &[1, 2, 4, 10],
     &[1, 2, 3, 5],
     &[1, 2, 5],
 ];

@@ -4,7 +4,7 @@ use crate::run::{
     Transport,
 };
 
-/// The most points, strengths or legs that a list may count.
+/// The most points or legs that a list may count.
 const COUNT: u64 = 4096;
 /// The greatest length of a buffer.
 const LENGTH: u64 = 8192;
@@ -135,7 +135,6 @@ impl<'a> Reader<'a> {
         Some(Shape {
             points: self.list(count, Self::point)?,
             loopback: self.present(Self::number)?,
-            strengths: self.floats()?,
         })
     }
 

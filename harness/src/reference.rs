@@ -1,5 +1,5 @@
-//! What `lfo_run` is to give: the bytes of a run read by RUN.md (reading.rs), the questions of document 01 (questions.rs) and the player by the
-//! Rust source (player.rs).
+//! What `lfo_run` is to give: the bytes of a run read by RUN.md (reading.rs), the questions (questions.rs) and the player by the Rust source
+//! (player.rs).
 use crate::figures::{Ending, Figures, MAKE};
 use crate::lfo::{Lfo, Mode};
 use crate::player::{Player, path_of, shape_of, transport_of};
@@ -39,8 +39,7 @@ impl Played {
 }
 
 fn shape_at(shape: &Shape, x: u32) -> f32 {
-    let (shape, strengths) = shape_of(shape);
-    Lfo::shape_at_(&shape, &strengths, f32::from_bits(x))
+    Lfo::shape_at_(&shape_of(shape), f32::from_bits(x))
 }
 
 fn path_at(path: &Path, t: u32) -> (f32, f32) {
@@ -81,7 +80,12 @@ impl Playing<'_> {
 
     /// Makes a call; `smooth` is the setting that gave its coefficient, 0 where that is not known.
     fn call(&mut self, call: &Call, smooth: f32) {
-        let answer = questions::answer(call, self.frames);
+        let failed = questions::failed(call, self.frames);
+        let answer = failed.first().copied().unwrap_or(0);
+        self.figures.failed(call.tag(), &failed);
+        if let Call::Shape(s) | Call::ShapeAt { shape: s, .. } = call {
+            self.figures.shape(s, answer);
+        }
         self.put(answer);
         if let Call::Block(b) = call {
             self.block(b, answer);
@@ -142,8 +146,10 @@ fn make<'a>(
     smooth: f32,
     figures: &'a mut Figures,
 ) -> Result<Playing<'a>, Played> {
-    let answer = questions::settings(settings);
+    let failed = questions::failed(&Call::Settings(*settings), 0);
+    let answer = failed.first().copied().unwrap_or(0);
     figures.answers[MAKE][answer as usize] += 1;
+    figures.failed(MAKE, &failed);
     let entry = Entry {
         tag: MAKE,
         answer,

@@ -1,5 +1,5 @@
-//! Makes a call one that some question refuses: an unknown code, a float that is not finite, a list of another length, a number out of range.
-//! One fault, or two, so that the order of the questions shows.
+//! Makes a call one that some question refuses: an unknown code, a float that is not finite, a list of another length, a number out of range, a
+//! curve off the grid. One fault, or two, so that the order of the questions shows.
 use crate::player::bits;
 use crate::questions;
 use crate::run::{Block, Call, Mod, Path, Present, Rate, Scale, Settings, Shape, Span, Transport};
@@ -129,12 +129,27 @@ fn outside(v: &mut Values, list: &mut [u32], out: &[f32]) {
     }
 }
 
+// A curve off the grid, of any kept point, the first or the last; with a step too, and where that is the 64th of more.
+fn off_grid(v: &mut Values, s: &mut Shape) {
+    if v.one_in(6) {
+        let last = s.points[s.points.len() - 1];
+        s.points.resize(s.points.len().max(65 + v.index(4)), last);
+    }
+    let kept = s.points.len().min(64);
+    let any = v.index(kept);
+    let p = &mut s.points[v.of(&[any, any, 0, kept - 1])];
+    p.curve = bits(v.off_grid());
+    if v.one_in(4) {
+        p.step = 1;
+    }
+}
+
 fn shape(v: &mut Values, s: &mut Shape) {
     let kept = s.points.len().min(64);
     let at = v.index(kept.max(1));
     match v.below(8) {
         0 => s.loopback = Present::Unknown(unknown(v, 2)),
-        1 | 2 if kept > 0 => {
+        1..4 if kept > 0 => {
             let p = &mut s.points[at];
             match v.below(6) {
                 0 => p.step = unknown(v, 2),
@@ -145,26 +160,11 @@ fn shape(v: &mut Values, s: &mut Shape) {
                 _ => mods(v, &mut p.mods, false),
             }
         }
-        3 if !s.strengths.is_empty() => {
-            let i = v.index(s.strengths.len());
-            s.strengths[i] = not_finite(v);
-        }
-        4 => length(v, &mut s.strengths, bits(1.0)),
-        5 => {
+        4..7 if kept > 0 => off_grid(v, s),
+        _ => {
             let any = (kept as u64).max(v.number());
             let past = kept as u64 + v.below(2);
             s.loopback = Present::Yes(v.of(&[past, 64 + past, any, u64::MAX]));
-        }
-        _ => {
-            let out = [
-                0.0625f32.next_down(),
-                16.0f32.next_up(),
-                0.0,
-                -1.0,
-                f32::MAX,
-                -0.0,
-            ];
-            outside(v, &mut s.strengths, &out);
         }
     }
 }

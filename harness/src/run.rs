@@ -69,7 +69,6 @@ pub struct Point {
 pub struct Shape {
     pub points: Vec<Point>,
     pub loopback: Present<u64>,
-    pub strengths: Vec<u32>,
 }
 
 #[derive(Clone, Copy, Debug, PartialEq)]
@@ -209,7 +208,6 @@ impl Numbers {
             self.mods(&p.mods);
         }
         self.present(&s.loopback, |n, i| n.put(*i));
-        self.floats(&s.strengths);
     }
 
     fn path(&mut self, path: &Path) {

@@ -1,4 +1,5 @@
 //! A run that differs, made shorter; and a run as a reader can read it.
+use crate::bend::strengths;
 use crate::figures::{CALLS, Figures};
 use crate::player::{path_of, settings_of, shape_of, transport_of};
 use crate::questions;
@@ -42,7 +43,6 @@ fn smaller(call: &Call) -> Option<Call> {
         }
         Call::Shape(s) | Call::ShapeAt { shape: s, .. } => {
             s.points.pop()?;
-            s.strengths.truncate(s.points.len());
         }
         Call::Path(p) | Call::PathAt { path: p, .. } => {
             p.points.pop()?;
@@ -73,12 +73,11 @@ fn show_call(i: usize, call: &Call) {
     match call {
         Call::Settings(s) => show_settings(s),
         Call::Shape(s) | Call::ShapeAt { shape: s, .. } => {
-            let (shape, strengths) = shape_of(s);
-            let loopback = shape.loopback();
-            for (p, e) in shape.points().iter().zip(strengths) {
+            let shape = shape_of(s);
+            for (p, e) in shape.points().iter().zip(strengths(&shape)) {
                 println!("    {p:?}, strength {e:e}");
             }
-            println!("    loopback {loopback:?}");
+            println!("    loopback {:?}", shape.loopback());
         }
         Call::Path(p) | Call::PathAt { path: p, .. } => {
             for point in path_of(p).0.points() {

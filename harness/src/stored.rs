@@ -6,10 +6,10 @@ use crate::lfo::{Direction, Division, Feel, LfoType, Mode, Rate, Scale, Settings
 use crate::player::bits;
 use crate::questions::{self, APPLY};
 use crate::reference::play;
-use crate::run::{Call, Point, Present, settings_bits};
+use crate::run::{Call, Point, Present, Shape, settings_bits};
 use crate::runs::hex;
 use crate::values::{DIRECTIONS, FEELS, KINDS, MODES, Values};
-use crate::written::{Written, bent, bowed, eighth, hertz, moved, path, point, shape, synced};
+use crate::written::{Written, bent, bowed, eighth, hertz, moved, path, point, synced};
 use crate::{refused, spoiled};
 use std::fs;
 use std::path::Path;
@@ -227,6 +227,14 @@ fn starts(list: &mut List) {
     }
 }
 
+// 65 points.
+fn many() -> Shape {
+    Shape {
+        points: (0..65).map(|i| point(i as f32 / 64.0, 0.5, 0.0)).collect(),
+        loopback: Present::No,
+    }
+}
+
 fn curves(list: &mut List) {
     for (i, mode) in [Mode::OneShot, Mode::Restart].into_iter().enumerate() {
         for index in 0..3 {
@@ -246,7 +254,8 @@ fn curves(list: &mut List) {
     for count in [0, 1, 2] {
         let points: Vec<Point> = (0..count).map(|i| point(0.5, i as f32, 0.5)).collect();
         let w = Written::new(&eighth(LfoType::Drawn, Mode::Restart));
-        let w = w.with(Call::Shape(shape(points, Present::No)));
+        let loopback = Present::No;
+        let w = w.with(Call::Shape(Shape { points, loopback }));
         add(list, w.block(6, NONE));
         let places = [(0.25, 0.75, 1.0), (0.25, 0.75, 1.0)];
         let w = Written::new(&eighth(LfoType::Path, Mode::Restart));
@@ -262,15 +271,17 @@ fn curves(list: &mut List) {
         add(list, w.block(3, NONE).bus(bus, value).block(5, NONE));
     }
     // more than 64 points, what is past them being no point's
-    let mut many: Vec<Point> = (0..65).map(|i| point(i as f32 / 64.0, 0.5, 0.0)).collect();
-    many[64].step = 2;
-    many[64].x = bits(f32::NAN);
-    let w = Written::new(&eighth(LfoType::Drawn, Mode::Restart));
-    let w = w.with(Call::Shape(shape(many, Present::Yes(63))));
+    let mut s = many();
+    s.points[64].step = 2;
+    s.points[64].x = bits(f32::NAN);
+    s.loopback = Present::Yes(63);
+    let w = Written::new(&eighth(LfoType::Drawn, Mode::Restart)).with(Call::Shape(s));
     add(list, w.block(3, NONE));
     // a gap of 2^-128 gives NaN
-    let points = vec![point(0.0, 0.0, 0.0), point(1e-40, 1.0, 0.0)];
-    let s = shape(points, Present::No);
+    let s = Shape {
+        points: vec![point(0.0, 0.0, 0.0), point(1e-40, 1.0, 0.0)],
+        loopback: Present::No,
+    };
     let x = bits(1e-41);
     let at = Call::ShapeAt {
         shape: s.clone(),
@@ -319,14 +330,104 @@ fn evaluations(list: &mut List) {
         };
         add(list, w().with(at(true, ts[0])).with(at(false, ts[1])));
     }
-    // supplied numbers other than the source's
-    let mut s = bent();
-    s.strengths = [0.0625, 16.0, 3.0, 0.7, 1.0].map(bits).to_vec();
+    // legs other than the source's
     let mut p = bowed(true);
     p.legs = [0.0, 2.0, 0.5].map(bits).to_vec();
-    for kind in [LfoType::Drawn, LfoType::Path] {
-        let w = Written::new(&eighth(kind, Mode::Restart)).with(Call::Shape(s.clone()));
-        add(list, w.with(Call::Path(p.clone())).block(8, NONE));
+    let w = Written::new(&eighth(LfoType::Path, Mode::Restart)).with(Call::Path(p));
+    add(list, w.block(8, NONE));
+}
+
+// ---- bends
+
+const STEP: f32 = 1.0 / 1024.0;
+
+// The value at x of a line from 0 to 1 that is bent.
+fn on_line(curve: f32, x: f32) -> Call {
+    let shape = Shape {
+        points: vec![point(0.0, 0.0, curve), point(1.0, 1.0, 0.0)],
+        loopback: Present::No,
+    };
+    Call::ShapeAt { shape, x: bits(x) }
+}
+
+fn bends(list: &mut List) {
+    let w = || Written::new(&eighth(LfoType::Drawn, Mode::Restart));
+    // in each octave the strengths that are not the source's: at 12/1024 one unit of each shows in the value
+    for k in [22.0, 24.0, 165.0] {
+        let curves = (0..8).map(|octave| (k + 256.0 * octave as f32) * STEP - 1.0);
+        add(
+            list,
+            curves.fold(w(), |w, c| w.with(on_line(c, 12.0 * STEP))),
+        );
+    }
+    // the ends and beyond them, about 0, and where octaves meet
+    for curves in [
+        [1.0, 1.5, 1.0f32.next_up(), f32::MAX, 1.0 - STEP],
+        [-1.0, -1.5, -(1.0f32.next_up()), f32::MIN, STEP - 1.0],
+        [0.0, -0.0, STEP, -STEP, 0.25],
+        [0.25 - STEP, 0.25 + STEP, -0.75, -0.75 - STEP, 0.5 + STEP],
+    ] {
+        let calls = curves.map(|c| on_line(c, 0.375));
+        add(list, calls.into_iter().fold(w(), Written::with));
+    }
+    // played, by each of its segments
+    for multiples in [
+        [24.0, 165.0, 1024.0, -1024.0],
+        [1023.0, -859.0, 1.0, 600.0],
+        [1536.0, -1.0, -345.0, 421.0],
+    ] {
+        let mut points = vec![point(1.0, 0.125, 0.0)];
+        for (i, n) in multiples.into_iter().enumerate() {
+            points.push(point(i as f32 * 0.25, 1.0 - i as f32 * 0.3, n * STEP));
+        }
+        let loopback = Present::No;
+        let w = w().with(Call::Shape(Shape { points, loopback }));
+        add(list, w.block(9, Present::Yes(0)));
+    }
+}
+
+// A curve off the grid: of the first point, of one with a step, of the last; near the grid; with what another question asks before; of the 64th point
+// and of the 65th.
+fn off_the_grid(list: &mut List) {
+    let w = || Written::new(&eighth(LfoType::Drawn, Mode::Restart));
+    let both = |shape: Shape| {
+        let w = w().with(Call::Shape(shape.clone())).block(2, NONE);
+        w.with(Call::ShapeAt { shape, x: 0 })
+    };
+    let off = |i: usize| {
+        let mut s = bent();
+        s.points[i].curve = bits(0.3);
+        s
+    };
+    for i in [0, 2, 4] {
+        add(list, both(off(i)));
+    }
+    let near = 24.0f32 * STEP;
+    for curves in [
+        [near.next_up(), near.next_down(), STEP / 2.0, -1.5 * STEP],
+        [1e-45, -1e-45, 1.0f32.next_down(), -(1.0f32.next_down())],
+        [f32::INFINITY, f32::NEG_INFINITY, f32::NAN, 0.0],
+    ] {
+        let calls = curves.map(|c| on_line(c, 0.375));
+        add(list, calls.into_iter().fold(w(), Written::with));
+    }
+    let earlier: [fn(&mut Shape); 6] = [
+        |s| s.points[1].step = 2,
+        |s| s.loopback = Present::Unknown(2),
+        |s| s.points[3].mods[0] = Present::Unknown(3),
+        |s| s.points[1].y = bits(f32::NAN),
+        |s| s.points[3].mods[1] = moved(1, f32::INFINITY),
+        |s| s.loopback = Present::Yes(5),
+    ];
+    for fault in earlier {
+        let mut s = off(0);
+        fault(&mut s);
+        add(list, both(s));
+    }
+    for i in [63, 64] {
+        let mut s = many();
+        s.points[i].curve = bits(0.3);
+        add(list, both(s));
     }
 }
 
@@ -403,7 +504,7 @@ fn refusal(a: &mut Adverse, tag: usize, number: u64) -> Written {
                 w.run.settings = s;
                 w
             }
-            Call::Shape(_) | Call::Path(_) if number == 3 => w.with(call).block(2, NONE),
+            Call::Path(_) if number == 3 => w.with(call).block(2, NONE),
             _ => w.with(call).block(1, NONE),
         };
     }
@@ -490,6 +591,8 @@ pub fn runs(dir: &Path) {
     curves(&mut list);
     changes(&mut list);
     evaluations(&mut list);
+    bends(&mut list);
+    off_the_grid(&mut list);
     phases(&mut list);
     refusals(&mut list);
     malformed(&mut list);

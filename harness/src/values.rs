@@ -2,6 +2,7 @@
 use crate::lfo::{
     Direction, Division, Feel, LfoType, Mode, Rate, Scale, Settings, Span, Transport,
 };
+use crate::questions::on_grid;
 
 /// SplitMix64.
 pub struct Values(u64);
@@ -180,6 +181,46 @@ impl Values {
             7 => -self.unit_f32() * top,
             8 => (1.0 + self.unit_f32()) * top,
             _ => self.unit_f32() * top,
+        }
+    }
+
+    /// A multiple of 1/1024 from -1 to 1.
+    pub fn knob(&mut self) -> f32 {
+        (self.below(2049) as f32 - 1024.0) / 1024.0
+    }
+
+    /// A curve that is a multiple of 1/1024 once it is clamped: any, zeros of both signs, the ends and beyond them, and those whose strength is
+    /// not the source's.
+    pub fn curve(&mut self) -> f32 {
+        match self.below(16) {
+            0 | 1 => 0.0,
+            2 => -0.0,
+            3 => self.of(&[1.0, -1.0]),
+            4 => self.of(&[1.5, -1.5, 1.0f32.next_up(), -7.3, f32::MAX, f32::MIN]),
+            5 => (self.of(&[22.0, 24.0, 165.0]) + 256.0 * self.below(8) as f32) / 1024.0 - 1.0,
+            _ => self.knob(),
+        }
+    }
+
+    /// A curve that is none: next to one, halfway between two, next to the ends, near 0, any.
+    pub fn off_grid(&mut self) -> f32 {
+        loop {
+            let (on, any) = (self.knob(), self.unit_f32() * 2.0 - 1.0);
+            let curve = match self.below(4) {
+                0 => self.of(&[on.next_up(), on.next_down()]),
+                1 => on + self.of(&[1.0, -1.0]) / 2048.0,
+                2 => self.of(&[
+                    1.0f32.next_down(),
+                    (-1.0f32).next_up(),
+                    1e-45,
+                    -1e-45,
+                    1e-40,
+                ]),
+                _ => any,
+            };
+            if !on_grid(curve.to_bits()) {
+                return curve;
+            }
         }
     }
 

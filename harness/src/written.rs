@@ -1,6 +1,6 @@
 //! Runs written by hand, call by call, and the curves that they set.
 use crate::lfo::{Division, Feel, LfoType, Mode, PathPoint, Rate, Settings, Span, Transport};
-use crate::player::{bits, legs, strength};
+use crate::player::{bits, legs};
 use crate::run::{
     self, Block, Call, Mod, Path, Point, Present, Run, Shape, settings_bits, transport_bits,
 };
@@ -47,17 +47,6 @@ pub fn point(x: f32, y: f32, curve: f32) -> Point {
     }
 }
 
-/// A shape with the source's own strengths.
-pub fn shape(points: Vec<Point>, loopback: Present<u64>) -> Shape {
-    let own = |p: &Point| bits(strength(f32::from_bits(p.curve)));
-    let strengths = points.iter().take(64).map(own).collect();
-    Shape {
-        points,
-        loopback,
-        strengths,
-    }
-}
-
 /// Out of order, with equal x, zeros of both signs, bends, a step, and points that buses 0 and 1 move.
 pub fn bent() -> Shape {
     let mut points = vec![
@@ -70,7 +59,8 @@ pub fn bent() -> Shape {
     points[0].mods[0] = moved(0, 0.5);
     points[2].step = 1;
     points[3].mods[1] = moved(1, -0.5);
-    shape(points, Present::Yes(3))
+    let loopback = Present::Yes(3);
+    Shape { points, loopback }
 }
 
 pub fn path(places: &[(f32, f32, f32)], closed: bool) -> Path {

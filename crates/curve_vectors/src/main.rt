@@ -2,7 +2,7 @@
 // by `harness/run vectors curves > crates/curve_vectors/stdout`.
 //
 // A curve is a line with its name, a line with its first eight strengths or legs, and a line for each position: the position, the value
-// there, and the value with the points moved by the buses. Strengths and legs are those that the Rust source gives.
+// there, and the value with the points moved by the buses. Legs are those that the Rust source gives; our strengths are handed to it.
 ghost use Prim.Native.Nat.{_≤_};
 use libc::STDOUT_FILENO;
 use path::Path;
@@ -114,9 +114,9 @@ fn no_points() -> [Point; 64] {
     [blank; 64]
 }
 
-// A point with the segment after it bent by `curve`, of the given strength.
-fn bent(x: f32, y: f32, curve: f32, strength: f32) -> Point {
-    Point::new(x, y).curve(curve, strength)
+// A point with the segment after it bent by `curve`.
+fn bent(x: f32, y: f32, curve: f32) -> Point {
+    Point::new(x, y).curve(curve)
 }
 
 // A point with a step after it.
@@ -130,7 +130,6 @@ fn moving(p: Point, x_bus: u8, x_depth: f32, y_bus: u8, y_depth: f32) -> Point {
         x: p.x,
         y: p.y,
         curve: p.curve,
-        strength: p.strength,
         step: p.step,
         x_mod: PointMod::Bus {
             bus: x_bus,
@@ -156,21 +155,21 @@ fn empty_shape() {
 fn one_point() {
     show(b"one point\n");
     let mut p = no_points();
-    p[0] = bent(0.25, 0.75, 0.5, 4.0);
+    p[0] = bent(0.25, 0.75, 0.5);
     show_shape(p, 1);
 }
 
-// At an x of several points the last of them starts the segment. Each has a strength of its own.
+// At an x of several points the last of them starts the segment. Each has a bend of its own.
 fn equal_x() {
     show(b"equal x\n");
     let mut p = no_points();
-    p[0] = bent(0.0, 0.9, 1.0, 16.0);
-    p[1] = bent(0.0, 0.2, 0.25, 2.0);
+    p[0] = bent(0.0, 0.9, 1.0);
+    p[1] = bent(0.0, 0.2, 0.25);
     p[2] = stepped(0.5, 0.25);
-    p[3] = bent(0.5, 1.0, -0.25, 0.5);
-    p[4] = bent(0.5, 0.75, 0.5, 4.0);
-    p[5] = bent(1.0, 0.5, -1.0, 0.0625);
-    p[6] = bent(1.0, 0.1, -0.5, 0.25);
+    p[3] = bent(0.5, 1.0, -0.25);
+    p[4] = bent(0.5, 0.75, 0.5);
+    p[5] = bent(1.0, 0.5, -1.0);
+    p[6] = bent(1.0, 0.1, -0.5);
     show_shape(p, 7);
 }
 
@@ -178,7 +177,7 @@ fn steps() {
     show(b"steps\n");
     let mut p = no_points();
     p[0] = stepped(0.1, 0.1);
-    p[1] = bent(0.25, 0.6, 0.5, 4.0).step();
+    p[1] = bent(0.25, 0.6, 0.5).step();
     p[2] = Point::new(0.75, 0.9);
     p[3] = stepped(0.9, 0.0);
     show_shape(p, 4);
@@ -187,14 +186,29 @@ fn steps() {
 fn bends() {
     show(b"bends\n");
     let mut p = no_points();
-    p[0] = bent(0.0, 0.0, 0.25, 2.0);
-    p[1] = bent(0.2, 1.0, -0.25, 0.5);
-    p[2] = bent(0.28, 0.3, 0.5, 4.0);
-    p[3] = bent(0.4, 0.8, -0.5, 0.25);
-    p[4] = bent(0.6, 0.1, 1.0, 16.0);
-    p[5] = bent(0.72, 0.7, -1.0, 0.0625);
-    p[6] = bent(0.8, 0.05, 0.3, 2.297397);
+    p[0] = bent(0.0, 0.0, 0.25);
+    p[1] = bent(0.2, 1.0, -0.25);
+    p[2] = bent(0.28, 0.3, 0.5);
+    p[3] = bent(0.4, 0.8, -0.5);
+    p[4] = bent(0.6, 0.1, 1.0);
+    p[5] = bent(0.72, 0.7, -1.0);
+    p[6] = bent(0.8, 0.05, 0.2998046875);
     p[7] = Point::new(1.0, 1.0);
+    show_shape(p, 8);
+}
+
+// Multiples of 1/1024 within an octave: the 22nd, 24th and 165th, at which the Rust's exp2 has another last bit, and those next to the ends.
+fn fine_bends() {
+    show(b"fine bends\n");
+    let mut p = no_points();
+    p[0] = bent(0.0, 0.0, 0.0234375);
+    p[1] = bent(0.2, 1.0, 0.4111328125);
+    p[2] = bent(0.28, 0.3, 0.521484375);
+    p[3] = bent(0.4, 0.8, -0.8388671875);
+    p[4] = bent(0.6, 0.1, 0.9990234375);
+    p[5] = bent(0.72, 0.7, -0.9990234375);
+    p[6] = bent(0.8, 0.05, -0.4765625);
+    p[7] = bent(1.0, 1.0, 0.0009765625);
     show_shape(p, 8);
 }
 
@@ -202,13 +216,13 @@ fn bends() {
 fn unsorted() {
     show(b"unsorted\n");
     let mut p = no_points();
-    p[0] = bent(1.5, 0.3, 0.25, 2.0);
-    p[1] = bent(0.5, 2.0, 3.0, 16.0);
+    p[0] = bent(1.5, 0.3, 0.25);
+    p[1] = bent(0.5, 2.0, 3.0);
     p[2] = stepped(-0.5, 0.6);
-    p[3] = bent(0.25, -1.0, -0.25, 0.5);
-    p[4] = bent(0.5, 0.4, 0.5, 4.0);
-    p[5] = bent(-2.0, 0.8, -7.0, 0.0625);
-    p[6] = bent(1.0, 0.9, -0.5, 0.25);
+    p[3] = bent(0.25, -1.0, -0.25);
+    p[4] = bent(0.5, 0.4, 0.5);
+    p[5] = bent(-2.0, 0.8, -7.0);
+    p[6] = bent(1.0, 0.9, -0.5);
     p[7] = stepped(0.8, 0.2);
     show_shape(p, 8);
 }
@@ -217,7 +231,7 @@ fn negative_zeros() {
     show(b"negative zeros\n");
     let mut p = no_points();
     p[0] = Point::new(0.0, -0.0);
-    p[1] = bent(-0.0, -0.0, -0.0, 1.0);
+    p[1] = bent(-0.0, -0.0, -0.0);
     p[2] = stepped(0.5, -0.0);
     p[3] = Point::new(0.75, -0.0);
     p[4] = Point::new(1.0, -0.0);
@@ -238,13 +252,13 @@ fn tiny_gap() {
 fn moving_points() {
     show(b"moving points\n");
     let mut p = no_points();
-    p[0] = moving(bent(0.0, 0.5, 0.5, 4.0), 4, 0.5, 5, 1.0);
+    p[0] = moving(bent(0.0, 0.5, 0.5), 4, 0.5, 5, 1.0);
     p[1] = moving(stepped(0.2, 0.1), 2, 0.3, 13, 1.0);
-    p[2] = moving(bent(0.4, 0.9, -0.5, 0.25), 1, 0.3, 6, -10.0);
-    p[3] = moving(bent(0.5, 0.2, 1.0, 16.0), 16, 5.0, 255, -5.0);
+    p[2] = moving(bent(0.4, 0.9, -0.5), 1, 0.3, 6, -10.0);
+    p[3] = moving(bent(0.5, 0.2, 1.0), 16, 5.0, 255, -5.0);
     p[4] = moving(stepped(0.7, -0.0), 8, 1.0, 7, -1.0);
     p[5] = stepped(0.8, -0.0);
-    p[6] = moving(bent(0.9, 0.6, 0.25, 2.0), 6, 10.0, 15, 0.4);
+    p[6] = moving(bent(0.9, 0.6, 0.25), 6, 10.0, 15, 0.4);
     p[7] = moving(stepped(1.0, 0.3), 11, 0.2, 9, 0.2);
     show_shape(p, 8);
 }
@@ -430,6 +444,7 @@ fn main() {
     equal_x();
     steps();
     bends();
+    fine_bends();
     unsorted();
     negative_zeros();
     tiny_gap();

@@ -31,19 +31,18 @@ isYes b = not (eqb b 0)
 unfoldable pub modulationAt : List Float → ℕ → List ℕ → ℕ → PointMod
 modulationAt floats f bytes b = cond (isYes (getD bytes b 0)) (Bus (getD bytes (b + 1) 0) (getD floats f nan)) None
 
--- six floats and five bytes
+-- five floats and five bytes
 unfoldable pub pointAt : List Float → List ℕ → ℕ → Point
 pointAt floats bytes i =
-    let f = i * 6 in
+    let f = i * 5 in
     let b = i * 5 in
     record {
       x = getD floats f nan;
       y = getD floats (f + 1) nan;
       curve = getD floats (f + 2) nan;
-      strength = getD floats (f + 3) nan;
       step = isYes (getD bytes b 0);
-      «x_mod» = modulationAt floats (f + 4) bytes (b + 1);
-      «y_mod» = modulationAt floats (f + 5) bytes (b + 3);
+      «x_mod» = modulationAt floats (f + 3) bytes (b + 1);
+      «y_mod» = modulationAt floats (f + 4) bytes (b + 3);
     }
 
 -- five floats and four bytes

@@ -40,13 +40,14 @@ fn now() -> f64 {
     t.seconds as f64 * 1e9 + t.nanos as f64
 }
 
-/// 16 points at uneven x, bent, one of them a step. The Rattle program has them by their bits.
+/// 16 points at uneven x, bent, one of them a step. The Rattle program has them by their bits. The bends are multiples of 1/1024 whose
+/// strengths the source's exp2 gives too.
 fn bent16() -> Vec<Point> {
     (0..16u32)
         .map(|i| {
             let x = i as f32 / 16.0 + (i % 3) as f32 / 64.0;
             let y = ((i * 7) % 16) as f32 / 15.0;
-            let p = Point::new(x, y).curve((((i * 5) % 13) as f32 - 6.0) * 0.15);
+            let p = Point::new(x, y).curve((((i * 5) % 13) as f32 - 6.0) * 154.0 / 1024.0);
             if i == 9 { p.step() } else { p }
         })
         .collect()
