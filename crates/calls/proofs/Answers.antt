@@ -38,7 +38,7 @@ first-number n (q ∷ before) rest y = rw (y .0) (first-number n before rest (y 
 numbered : (p : State) (c : Call) → Numbered (questions p c)
 unfolding questions settingsQuestions shapeQuestions pathQuestions busQuestions phaseQuestions blockQuestions
 numbered p (settings c) = (lit< tt, (lit< tt, (lit< tt, tt)))
-numbered p (shape points count loopback strengths) = (lit< tt, (lit< tt, (lit< tt, (lit< tt, (lit< tt, tt)))))
+numbered p (shape points count loopback) = (lit< tt, (lit< tt, (lit< tt, (lit< tt, tt))))
 numbered p (path points count closed legs) = (lit< tt, (lit< tt, (lit< tt, (lit< tt, tt))))
 numbered p (bus k value) = (lit< tt, (lit< tt, tt))
 numbered p (phase t) = (lit< tt, (lit< tt, (lit< tt, tt)))

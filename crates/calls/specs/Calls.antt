@@ -28,7 +28,7 @@ use Rattle.calls.specs.Blocks.{pendingOf, playedState, values}
 -- A call on a player, with all that it is handed. A block has the two buffers as they are before it.
 pub data Call : Type 0 where
   settings : SettingsCodes → Call
-  shape : List PointCodes → ℕ → LoopbackCodes → List Float → Call
+  shape : List PointCodes → ℕ → LoopbackCodes → Call
   path : List PathPointCodes → ℕ → ℕ → List Float → Call
   bus : ℕ → Float → Call
   phase : TransportCodes → Call
@@ -37,7 +37,7 @@ pub data Call : Type 0 where
 -- the questions that are put to it
 unfoldable pub questions : State → Call → List Question
 questions p (settings c) = settingsQuestions c
-questions p (shape points count loopback strengths) = shapeQuestions true points count loopback strengths
+questions p (shape points count loopback) = shapeQuestions true points count loopback
 questions p (path points count closed legs) = pathQuestions true points count closed legs
 questions p (bus k value) = busQuestions k value
 questions p (phase t) = phaseQuestions t
@@ -76,7 +76,7 @@ made c seed = cond (makes c) (bySettings (noPlayer seed) (settingsAt c) (λ s. n
 -- where it is accepted
 unfoldable pub accepted : State → Call → State
 accepted p (settings c) = bySettings p (settingsAt c) (withSettings p)
-accepted p (shape points count loopback strengths) = withShape p (givenShape points count loopback strengths)
+accepted p (shape points count loopback) = withShape p (givenShape points count loopback)
 accepted p (path points count closed legs) = withPath p (givenPath points count closed legs)
 accepted p (bus k value) = withBus p k value
 accepted p (phase t) = p

@@ -91,7 +91,7 @@ ClockCounts =
 -- those of one call: a block's, where it is accepted
 abbrev pub framesOf : State → Call → ℕ
 framesOf p (settings c) = 0
-framesOf p (shape points count loopback strengths) = 0
+framesOf p (shape points count loopback) = 0
 framesOf p (path points count closed legs) = 0
 framesOf p (bus k value) = 0
 framesOf p (phase t) = 0

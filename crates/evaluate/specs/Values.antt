@@ -23,11 +23,11 @@ unfoldable pub valueAnswer : Value → Answer
 valueAnswer (Value.Refused n) = refusal n
 valueAnswer (Value.At v) = success (v ∷ [])
 
-unfoldable pub evaluatedShape : List PointCodes → ℕ → LoopbackCodes → List Float → Float → Answer
-evaluatedShape points count loopback strengths x =
+unfoldable pub evaluatedShape : List PointCodes → ℕ → LoopbackCodes → Float → Answer
+evaluatedShape points count loopback x =
     answerWith
-    (firstNo (shapeQuestions (finite x) points count loopback strengths))
-    (shapeValue (givenShape points count loopback strengths) x ∷ [])
+    (firstNo (shapeQuestions (finite x) points count loopback))
+    (shapeValue (givenShape points count loopback) x ∷ [])
 
 -- ---- a path at the time t
 

@@ -23,17 +23,16 @@ pub fn evaluate_shape(
     points: [PointCodes; MAX_POINTS],
     count: usize,
     loopback: LoopbackCodes,
-    strengths: &[f32],
     x: f32,
 ) -> Value
-    ensures { λ r. ⌜ valueAnswer r ≡ evaluatedShape points count loopback (now (strengths .entry)) x ⌝ }
+    ensures { λ r. ⌜ valueAnswer r ≡ evaluatedShape points count loopback x ⌝ }
 {
     let others = questions::is_finite_f32(x);
-    let answer = questions::shape_answer(others, points, count, loopback, strengths);
+    let answer = questions::shape_answer(others, points, count, loopback);
     if answer != 0 {
         return Value::Refused(answer);
     }
-    let s = curves::shape_of(points, count, loopback, strengths);
+    let s = curves::shape_of(points, count, loopback);
     Value::At(s.value(x))
 }
 

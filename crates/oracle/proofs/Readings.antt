@@ -10,10 +10,11 @@ use Rattle.settings.specs.declared.record.TransportCodes.{TransportCodes}
 use Rattle.questions.specs.declared.RestartCodes.{RestartCodes}
 use Rattle.calls.specs.Calls as Calls
 use Rattle.runs.specs.declared.fields.Place.{Place}
+use Rattle.runs.specs.declared.shapes.ShapeCodes.{ShapeCodes}
 use Rattle.runs.specs.Parser.{Parsed, read, malformed, after, onward, Reads}
 use Rattle.runs.specs.Fields.{number, upTo, f32}
 use Rattle.runs.specs.Records.{settings, transport, restart}
-use Rattle.runs.specs.Curves.{ShapeCodes, PathCodes, shape, path}
+use Rattle.runs.specs.Curves.{PathCodes, shape, path}
 use Rattle.runs.proofs.Laws.{chain, last}
 use Rattle.oracle.specs.Asked.{Asked, call, shapeAt, pathAt, sevens, none, byTag, asked}
 use Rattle.oracle.specs.Asked.{settingsCall, shapeCall, pathCall, busCall, phaseCall, blockCall, shapeAtCall, pathAtCall}
@@ -28,8 +29,7 @@ module _ (run : List ℕ) {from a : Place} where
   unfolding phaseCall
   phase-call r = chain _ r last
 
-  pub shape-call : {s : ShapeCodes} → Reads (shape run) from s a
-      → Reads (shapeCall run) from (call (Calls.shape (s .points) (s .count) (s .loopback) (s .strengths))) a
+  pub shape-call : {s : ShapeCodes} → Reads (shape run) from s a → Reads (shapeCall run) from (call (Calls.shape (s .points) (s .count) (s .loopback))) a
   unfolding shapeCall
   shape-call r = chain _ r last
 
@@ -43,7 +43,7 @@ module _ (run : List ℕ) {from a b : Place} where
   bus-call r s = chain _ r (chain _ s last)
 
   pub shape-at-call : {s : ShapeCodes} {x : Float} → Reads (shape run) from s a → Reads (f32 run) a x b
-      → Reads (shapeAtCall run) from (shapeAt (s .points) (s .count) (s .loopback) (s .strengths) x) b
+      → Reads (shapeAtCall run) from (shapeAt (s .points) (s .count) (s .loopback) x) b
   unfolding shapeAtCall
   shape-at-call r s = chain _ r (chain _ s last)
 

@@ -18,7 +18,7 @@ use Rattle.runs.specs.Curves.{shape, path}
 -- a call on the player, or one that evaluates a shape or a path
 pub data Asked : Type 0 where
   call : Call → Asked
-  shapeAt : List PointCodes → ℕ → LoopbackCodes → List Float → Float → Asked
+  shapeAt : List PointCodes → ℕ → LoopbackCodes → Float → Asked
   pathAt : List PathPointCodes → ℕ → ℕ → List Float → Float → Asked
 
 -- "before each block every element of both is 7.0 (bits 40e00000)"
@@ -34,7 +34,7 @@ settingsCall = settings then λ c. done (call (Calls.settings c))
 
 -- tag 1
 unfoldable pub shapeCall : Parser Asked
-shapeCall = shape then λ s. done (call (Calls.shape (s .points) (s .count) (s .loopback) (s .strengths)))
+shapeCall = shape then λ s. done (call (Calls.shape (s .points) (s .count) (s .loopback)))
 
 -- tag 2
 unfoldable pub pathCall : Parser Asked
@@ -63,7 +63,7 @@ blockCall =
 
 -- tag 6
 unfoldable pub shapeAtCall : Parser Asked
-shapeAtCall = shape then λ s. f32 then λ x. done (shapeAt (s .points) (s .count) (s .loopback) (s .strengths) x)
+shapeAtCall = shape then λ s. f32 then λ x. done (shapeAt (s .points) (s .count) (s .loopback) x)
 
 -- tag 7
 unfoldable pub pathAtCall : Parser Asked

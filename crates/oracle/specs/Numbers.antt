@@ -33,7 +33,7 @@ blockNumbers p t frames at x y =
 
 unfoldable pub callNumbers : State → Call → List ℕ
 callNumbers p (settings c) = answer p (settings c) ∷ []
-callNumbers p (shape points count loopback strengths) = answer p (shape points count loopback strengths) ∷ []
+callNumbers p (shape points count loopback) = answer p (shape points count loopback) ∷ []
 callNumbers p (path points count closed legs) = answer p (path points count closed legs) ∷ []
 callNumbers p (bus k value) = answer p (bus k value) ∷ []
 callNumbers p (phase t) = answerNumbers (phaseAnswer p t)
@@ -41,11 +41,11 @@ callNumbers p (block t frames at x y) = blockNumbers p t frames at x y
 
 unfoldable pub numbers : State → Asked → List ℕ
 numbers p (call c) = callNumbers p c
-numbers p (shapeAt points count loopback strengths x) = answerNumbers (evaluatedShape points count loopback strengths x)
+numbers p (shapeAt points count loopback x) = answerNumbers (evaluatedShape points count loopback x)
 numbers p (pathAt points count closed legs t) = answerNumbers (evaluatedPath points count closed legs t)
 
 -- the player after it
 unfoldable pub stateAfter : State → Asked → State
 stateAfter p (call c) = step p c
-stateAfter p (shapeAt points count loopback strengths x) = p
+stateAfter p (shapeAt points count loopback x) = p
 stateAfter p (pathAt points count closed legs t) = p

@@ -28,17 +28,13 @@ pub fn shape_reply(run: &[u8], from: Place, p: Player) -> Reply
     requires { ⌜ Valid p ⌝ }
     ensures { λ r. ⌜ RepliesTo shapeCall (now (run .entry)) from p r ⌝ }
 {
-    let mut buffer = zeros();
-    let s = runs::read_shape(run, from, &mut buffer);
+    let s = runs::read_shape(run, from);
     let next = s.next;
     if next.good {
-        let points = s.points;
-        let loopback = s.loopback;
-        let len = s.len;
-        return edited(
-            player::set_shape(p, points, s.count, loopback, &buffer[..len]),
-            next,
-        );
+        let codes = s.value;
+        let points = codes.points;
+        let loopback = codes.loopback;
+        return edited(player::set_shape(p, points, codes.count, loopback), next);
     }
     malformed(p)
 }

@@ -100,15 +100,14 @@ pub fn shape_at_reply(run: &[u8], from: Place, p: Player) -> Reply
     requires { ⌜ Valid p ⌝ }
     ensures { λ r. ⌜ RepliesTo shapeAtCall (now (run .entry)) from p r ⌝ }
 {
-    let mut buffer = zeros();
-    let s = runs::read_shape(run, from, &mut buffer);
+    let s = runs::read_shape(run, from);
     let x = runs::read_f32(run, s.next);
     let next = x.next;
     if next.good {
-        let points = s.points;
-        let loopback = s.loopback;
-        let len = s.len;
-        let v = evaluate::evaluate_shape(points, s.count, loopback, &buffer[..len], x.value);
+        let codes = s.value;
+        let points = codes.points;
+        let loopback = codes.loopback;
+        let v = evaluate::evaluate_shape(points, codes.count, loopback, x.value);
         return unchanged(value_says(v), next, p);
     }
     malformed(p)

@@ -15,7 +15,7 @@ ghost use Rattle.player.specs.Player.{Valid};
 // The place of a run that ends.
 pub const NOWHERE: Place = Place { at: 0, good: false };
 
-// Room for the strengths of a shape or the legs of a path.
+// Room for the legs of a path.
 pub fn zeros() -> [f32; 4096]
     ensures { λ r. ⌜ r ≡ replicate 4096 f32-0 ⌝ }
 {

@@ -32,7 +32,7 @@ use Rattle.curves.specs.declared.PathPointCodes.{PathPointCodes}
 use Rattle.curves.specs.declared.LoopbackCodes.{LoopbackCodes}
 use Rattle.curves.specs.Given.{isYes, givenPoints, loopbackOf, givenShape, givenPathPoints, givenPath}
 use Rattle.questions.specs.Questions.{firstNo, settingsQuestions, shapeQuestions, pathQuestions, busQuestions}
-use Rattle.questions.proofs.Facts.{settings-in, ShapeAccepted, shape-accepted, PathAccepted, path-accepted, bus-accepted}
+use Rattle.questions.proofs.Facts.{settings-in, shape-accepted, PathAccepted, path-accepted, bus-accepted}
 use Rattle.calls.specs.State.{withSettings, withShape, withPath, withBus, movedBuses}
 use Rattle.calls.specs.Calls.{settings, shape, path, bus, questions, answer, accepted}
 use Rattle.player.specs.declared.Player.{Player}
@@ -89,20 +89,17 @@ within-in (Loopback.At i) n = go (ltb i n) refl
     go true e = ltb-true i n e
     go false e = tt
 
-module _ (p : Player) (v : Valid p) (points : List PointCodes) (count : ℕ) (loopback : LoopbackCodes) (strengths : List Float) (a : ℕ)
-    (asked : a ≡ firstNo (shapeQuestions true points count loopback strengths)) where
+module _ (p : Player) (v : Valid p) (points : List PointCodes) (count : ℕ) (loopback : LoopbackCodes) (a : ℕ)
+    (asked : a ≡ firstNo (shapeQuestions true points count loopback)) where
   abbrev given : Shape
-  given = givenShape points count loopback strengths
+  given = givenShape points count loopback
 
-  shape-put : a ≡ answer (stateOf p) (shape points count loopback strengths)
+  shape-put : a ≡ answer (stateOf p) (shape points count loopback)
   unfolding answer questions
   shape-put = asked
 
-  pub shape-refused : (a ≡ 0 → ⊥) → Changes p (shape points count loopback strengths) (record { answer = a; player = p })
+  pub shape-refused : (a ≡ 0 → ⊥) → Changes p (shape points count loopback) (record { answer = a; player = p })
   shape-refused e = refused p _ a shape-put e v
-
-  pub shape-facts : a ≡ 0 → ShapeAccepted true points count loopback strengths
-  shape-facts e = shape-accepted true points count loopback strengths (sym asked ∙ e)
 
   given-in : a ≡ 0 → ShapeIn given
   unfolding givenShape shapeOf
@@ -110,14 +107,14 @@ module _ (p : Player) (v : Valid p) (points : List PointCodes) (count : ℕ) (lo
       record {
         short = min-le-right count 64;
         loopback-in = within-in (loopbackOf loopback) (min count 64);
-        moves = accepted-x (givenPoints points strengths (min count 64)) (min count 64) (shape-facts e .points-finite);
+        moves = accepted-x (givenPoints points (min count 64)) (min count 64) (shape-accepted true points count loopback (sym asked ∙ e) .points-finite);
       }
 
   abbrev byShape : Shape → Player
   byShape s = let l = p .slot .lfo in edited p (l .settings) s (l .path) (l .buses)
 
   pub shape-set : a ≡ 0 → (s : Shape) → s ≡ given → (r : Player) → r ≡ byShape s
-      → Changes p (shape points count loopback strengths) (record { answer = a; player = r })
+      → Changes p (shape points count loopback) (record { answer = a; player = r })
   shape-set e s is r made =
       let i = v .lfo-in in
       rw (made, is)

@@ -49,22 +49,21 @@ pub fn set_settings(p: Player, c: SettingsCodes) -> Changed
     Changed { answer, player }
 }
 
-// Sets the shape: the first 64 of `count` points, their strengths and the loopback point.
+// Sets the shape: the first 64 of `count` points, and the loopback point.
 pub fn set_shape(
     p: Player,
     points: [PointCodes; MAX_POINTS],
     count: usize,
     loopback: LoopbackCodes,
-    strengths: &[f32],
 ) -> Changed
     requires { ⌜ Valid p ⌝ }
-    ensures { λ r. ⌜ Changes p (call.shape points count loopback (now (strengths .entry))) r ⌝ }
+    ensures { λ r. ⌜ Changes p (call.shape points count loopback) r ⌝ }
 {
-    let answer = questions::shape_answer(true, points, count, loopback, strengths);
+    let answer = questions::shape_answer(true, points, count, loopback);
     if answer != 0 {
         return Changed { answer, player: p };
     }
-    let shape = curves::shape_of(points, count, loopback, strengths);
+    let shape = curves::shape_of(points, count, loopback);
     let slot = p.slot;
     let mut lfo = slot.lfo;
     lfo.shape = shape;

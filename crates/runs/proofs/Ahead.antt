@@ -267,7 +267,6 @@ ahead-shape =
     ahead-then _ _ (ahead-below _) λ _.
     steady-then _ _ (steady-kept _ _ ahead-point _) λ _.
     steady-then _ _ (steady-ahead ahead-loopback) λ _.
-    steady-then _ _ (steady-ahead ahead-list) λ _.
     steady-done _
 
 pub ahead-path-point : Ahead pathPoint

@@ -9,12 +9,12 @@ use Rattle.curves.specs.declared.ModCodes.{ModCodes}
 use Rattle.curves.specs.declared.PointCodes.{PointCodes}
 use Rattle.curves.specs.declared.PathPointCodes.{PathPointCodes}
 use Rattle.curves.specs.declared.LoopbackCodes.{LoopbackCodes}
-use Rattle.runs.specs.declared.shapes.ShapeRead.{ShapeRead}
+use Rattle.runs.specs.declared.shapes.ShapeCodes.{ShapeCodes}
 use Rattle.runs.specs.declared.paths.PathRead.{PathRead}
 use Rattle.runs.specs.Parser.{Parser, _then_, done}
 use Rattle.runs.specs.Fields.{number, upTo, f32, numberIf, byteIf, f32If}
 
--- "a count above 4,096 of points, strengths or legs" is malformed
+-- "a count above 4,096 of points or legs" is malformed
 abbrev pub count : Parser ℕ
 count = upTo 4096
 
@@ -22,15 +22,6 @@ count = upTo 4096
 unfoldable pub kept : {A : Type 0} → A → Parser A → ℕ → Parser (List A)
 kept blank p zero = done (replicate 64 blank)
 kept blank p (suc n) = kept blank p n then λ l. p then λ a. done (set l n a)
-
--- n floats
-unfoldable pub floats : ℕ → Parser (List Float)
-floats zero = done []
-floats (suc n) = floats n then λ l. f32 then λ x. done (l ++ (x ∷ []))
-
--- strengths = count strength.., legs = count leg..
-unfoldable pub list : Parser (List Float)
-list = count then λ n. floats n
 
 -- mod = 0 | 1 bus depth
 unfoldable pub modulation : Parser ModCodes
@@ -67,20 +58,13 @@ points = kept blankPoint point
 unfoldable pub loopback : Parser LoopbackCodes
 loopback = number then λ code. numberIf (eqb code 1) then λ index. done (record { code = code; index = index })
 
-pub record ShapeCodes : Type 0 where
-  pub points : List PointCodes
-  pub count : ℕ
-  pub loopback : LoopbackCodes
-  pub strengths : List Float
-
--- shape = count point.. loopback strengths
+-- shape = count point.. loopback
 unfoldable pub shape : Parser ShapeCodes
 shape =
     count then λ n.
     points n then λ points.
     loopback then λ loopback.
-    list then λ strengths.
-    done (record { points = points; count = n; loopback = loopback; strengths = strengths })
+    done (record { points = points; count = n; loopback = loopback })
 
 -- ---- paths
 
@@ -100,6 +84,15 @@ blankPathPoint = record { x = f32-0; y = f32-0; bend = f32-0; «x_mod» = blankM
 abbrev pub pathPoints : ℕ → Parser (List PathPointCodes)
 pathPoints = kept blankPathPoint pathPoint
 
+-- n floats
+unfoldable pub floats : ℕ → Parser (List Float)
+floats zero = done []
+floats (suc n) = floats n then λ l. f32 then λ x. done (l ++ (x ∷ []))
+
+-- legs = count leg..
+unfoldable pub list : Parser (List Float)
+list = count then λ n. floats n
+
 pub record PathCodes : Type 0 where
   pub points : List PathPointCodes
   pub count : ℕ
@@ -115,9 +108,6 @@ path =
     list then λ legs.
     done (record { points = points; count = n; closed = closed; legs = legs })
 
--- How a program says it: the strengths, or the legs, are the first `len` of a buffer.
-abbrev pub shapeRead : ShapeRead → List Float → ShapeCodes
-shapeRead r buffer = record { points = r .points; count = r .count; loopback = r .loopback; strengths = take (r .len) buffer }
-
+-- how a program says it: the legs are the first `len` of a buffer
 abbrev pub pathRead : PathRead → List Float → PathCodes
 pathRead r buffer = record { points = r .points; count = r .count; closed = r .closed; legs = take (r .len) buffer }

@@ -1,9 +1,9 @@
 -- Some runs, which the definitions meet by computation. Assumes nothing.
-use Prim.Native.Nat.{ℕ, suc, _+_, _^_}
+use Prim.Native.Nat.{ℕ, _^_}
 use mathlib.Core.Path.{_≡_, refl}
 use mathlib.Core.List.{List, [], _∷_, _++_}
-use lib.ListN.{length, replicate}
-use lib.Ieee.{nan, binary32, ofBits}
+use lib.ListN.{replicate}
+use lib.Ieee.{nan, ofBits}
 use Rattle.floatlaws.specs.Numbers.{f32-0, f32-1}
 use Rattle.number.specs.Encoded.{groups, encoded}
 use Rattle.number.specs.Read as Read
@@ -11,7 +11,7 @@ use Rattle.number.specs.Read.{leading, numberOf, shortest, judged, readFrom, re
 use Rattle.runs.specs.Parser.{read, malformed, after}
 use Rattle.runs.specs.Fields.{number, below, f32, numberIf, byteIf, f32If}
 use Rattle.runs.specs.Records.{rate, span, smooth, settings}
-use Rattle.runs.specs.Curves.{kept, floats, list, modulation}
+use Rattle.runs.specs.Curves.{kept, list, modulation, blankMod, point, blankPoint, loopback, shape}
 
 -- numbers as bytes, one after the other
 bytes : List ℕ → List ℕ
@@ -47,6 +47,18 @@ settings-read = refl
 unknown-rate : rate (bytes (2 ∷ 5 ∷ [])) 0 ≡ read (record { code = 2; division = 0; feel = 0; hz = f32-0; x10 = 0 }) 1
 unfolding bytes encoded groups readAt readFrom leading judged shortest numberOf after number numberIf f32If rate
 unknown-rate = refl
+
+-- one point at 1, 1 with the curve 0 and a step, its x moved by bus 3 at a depth of 1, and a loopback at it; nothing more is read
+shape-read : shape (bytes (1 ∷ one ∷ one ∷ 0 ∷ 1 ∷ 1 ∷ 3 ∷ one ∷ 0 ∷ 1 ∷ 0 ∷ 5 ∷ [])) 0
+    ≡ read
+    (record {
+      points = record { x = f32-1; y = f32-1; curve = f32-0; step = 1; «x_mod» = record { code = 1; bus = 3; depth = f32-1 }; «y_mod» = blankMod } ∷ replicate 63 blankPoint;
+      count = 1;
+      loopback = record { code = 1; index = 0 };
+    })
+    23
+unfolding bytes one encoded groups readAt readFrom leading judged shortest numberOf after number below Read.below f32 numberIf byteIf f32If modulation point kept loopback shape ofBits
+shape-read = refl
 
 -- a bus of 256, an f32 of 33 bits, and 4,097 floats are too large
 large-bus : modulation (bytes (1 ∷ 256 ∷ 0 ∷ [])) 0 ≡ malformed

@@ -22,5 +22,6 @@ pub use records::TransportRead;
 pub use records::read_restart;
 pub use records::read_settings;
 pub use records::read_transport;
+pub use shapes::ShapeCodes;
 pub use shapes::ShapeRead;
 pub use shapes::read_shape;

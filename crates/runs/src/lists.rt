@@ -1,4 +1,4 @@
-// Lists of floats, each with its count: the strengths of a shape, and the legs of a path.
+// A list of floats with its count: the legs of a path.
 ghost use Prim.Native.Nat.{_≤_};
 ghost use lib.ListN.{length, take};
 ghost use Rattle.runs.specs.Parser.{Reads};

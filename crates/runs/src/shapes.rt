@@ -1,9 +1,8 @@
 // Shapes.
 ghost use mathlib.Core.Path.{_≡_};
-ghost use Prim.Native.Nat.{_≤_};
-ghost use lib.ListN.{length, replicate};
+ghost use lib.ListN.{replicate};
 ghost use Rattle.runs.specs.Parser.{Reads};
-ghost use Rattle.runs.specs.Curves.{modulation, point, points, blankPoint, loopback, shape, shapeRead};
+ghost use Rattle.runs.specs.Curves.{modulation, point, points, blankPoint, loopback, shape};
 use super::fields::Place;
 use super::fields::read_below;
 use super::fields::read_byte_if;
@@ -11,7 +10,6 @@ use super::fields::read_f32;
 use super::fields::read_f32_if;
 use super::fields::read_number;
 use super::fields::read_number_if;
-use super::lists::read_list;
 use curves::LoopbackCodes;
 use curves::ModCodes;
 use curves::PointCodes;
@@ -37,12 +35,15 @@ pub struct LoopbackRead {
     pub next: Place,
 }
 
-// A shape of `count` points, of which the array has the first 64, and with `len` strengths, which are in a buffer of the caller's.
-pub struct ShapeRead {
+// A shape of `count` points, of which the array has the first 64.
+pub struct ShapeCodes {
     pub points: [PointCodes; MAX_POINTS],
     pub count: usize,
     pub loopback: LoopbackCodes,
-    pub len: usize,
+}
+
+pub struct ShapeRead {
+    pub value: ShapeCodes,
     pub next: Place,
 }
 
@@ -142,23 +143,21 @@ fn read_loopback(run: &[u8], from: Place) -> LoopbackRead
     }
 }
 
-// Reads a shape, with its strengths into the front of `buffer`.
-pub fn read_shape(run: &[u8], from: Place, buffer: &mut [f32]) -> ShapeRead
-    requires { ⌜ 4096 ≤ length (now buffer) ⌝ }
-    ensures { λ r. ⌜ (Reads (shape (now (run .entry))) from (shapeRead r (now (buffer .exit))) (r .next)) × (r .len ≤ 4096) ⌝ }
+pub fn read_shape(run: &[u8], from: Place) -> ShapeRead
+    ensures { λ r. ⌜ Reads (shape (now (run .entry))) from (r .value) (r .next) ⌝ }
 {
     let count = read_below(run, from, 4097);
     let points = read_points(run, count.next, count.value as usize);
     let loopback = read_loopback(run, points.next);
-    let strengths = read_list(run, loopback.next, buffer);
     let kept = points.value;
     let loopback_codes = loopback.value;
-    let next = strengths.next;
+    let next = loopback.next;
     ShapeRead {
-        points: kept,
-        count: count.value as usize,
-        loopback: loopback_codes,
-        len: strengths.len,
+        value: ShapeCodes {
+            points: kept,
+            count: count.value as usize,
+            loopback: loopback_codes,
+        },
         next,
     }
 }

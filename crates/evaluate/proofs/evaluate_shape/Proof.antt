@@ -1,9 +1,8 @@
 -- `evaluate_shape` meets its contract: the questions' number, and where it is 0, the value. Assumes nothing.
 use Prim.Native.Nat.{ℕ}
-use mathlib.Core.Path.{_≡_, sym, _∙_}
+use mathlib.Core.Path.{_≡_, sym}
 use mathlib.Core.Bool.{Bool}
 use mathlib.Core.List.{List, [], _∷_}
-use native.Mathlib.Omega.{arith}
 use borrow.Author.Needs.{needs}
 use borrow.Author.Tests.{ne-eqb}
 use lib.Ieee.{Float}
@@ -16,39 +15,35 @@ use Rattle.curves.specs.Given.{givenShape}
 use Rattle.questions.specs.Questions.{firstNo, shapeQuestions}
 use Rattle.questions.specs.Answers.{refusal, success}
 use Rattle.evaluate.specs.Values.{valueAnswer, evaluatedShape}
-use Rattle.questions.proofs.Facts.{shape-accepted}
 use Rattle.evaluate.proofs.evaluate_shape.Statement.{statement}
 use Rattle.evaluate.proofs.evaluate_shape.Tie as tie
 
 -- of the number n that the questions gave
-module _ (points : List PointCodes) (count : ℕ) (loopback : LoopbackCodes) (strengths : List Float) (x : Float) (others : Bool) (n : ℕ)
-    (o : others ≡ finite x) (a : n ≡ firstNo (shapeQuestions others points count loopback strengths)) where
-  number : firstNo (shapeQuestions (finite x) points count loopback strengths) ≡ n
+module _ (points : List PointCodes) (count : ℕ) (loopback : LoopbackCodes) (x : Float) (others : Bool) (n : ℕ)
+    (o : others ≡ finite x) (a : n ≡ firstNo (shapeQuestions others points count loopback)) where
+  number : firstNo (shapeQuestions (finite x) points count loopback) ≡ n
   number = rw (← o) (sym a)
 
-  refused : (n ≡ 0 → ⊥) → refusal n ≡ evaluatedShape points count loopback strengths x
+  refused : (n ≡ 0 → ⊥) → refusal n ≡ evaluatedShape points count loopback x
   unfolding evaluatedShape
   refused h = rw (number, ne-eqb n 0 h)
 
-  answered : n ≡ 0 → (s : Shape) (v : Float) → s ≡ givenShape points count loopback strengths → v ≡ shapeValue s x
-      → success (v ∷ []) ≡ evaluatedShape points count loopback strengths x
+  answered : n ≡ 0 → (s : Shape) (v : Float) → s ≡ givenShape points count loopback → v ≡ shapeValue s x
+      → success (v ∷ []) ≡ evaluatedShape points count loopback x
   unfolding evaluatedShape
   answered h s v e f = rw (number, h, f, e)
 
 returns : tie.Need-returns
 unfolding valueAnswer
-returns c = refused _ _ _ _ _ _ _ (c .before .before .is-finite-f32 .ensures) (c .before .shape-answer .ensures) (c .if1 .taken)
-
-shape-of-requires : tie.Need-shape-of-requires
-shape-of-requires c κs = omega (arith, shape-accepted _ _ _ _ _ (sym (c .before .shape-answer .ensures) ∙ c .if1 .left) .length-is)
+returns c = refused _ _ _ _ _ _ (c .before .before .is-finite-f32 .ensures) (c .before .shape-answer .ensures) (c .if1 .taken)
 
 returns-2 : tie.Need-returns-2
 unfolding valueAnswer
 returns-2 c =
     let d = c .before .before in
-    answered _ _ _ _ _ _ _ (d .before .before .is-finite-f32 .ensures) (d .before .shape-answer .ensures) (d .if1 .left) _ _ (c .before .shape-of .ensures .0) (c .value .ensures)
+    answered _ _ _ _ _ _ (d .before .before .is-finite-f32 .ensures) (d .before .shape-answer .ensures) (d .if1 .left) _ _ (c .before .shape-of .ensures .0) (c .value .ensures)
 
 pub evaluate-shape-spec : {M : Type 1} → statement M
 evaluate-shape-spec =
     tie.close
-    (tie.spec (λ c κs. search needs) (λ c κs. search needs) returns shape-of-requires (λ c κs. search needs) returns-2)
+    (tie.spec (λ c κs. search needs) (λ c κs. search needs) returns (λ c κs. search needs) (λ c κs. search needs) returns-2)

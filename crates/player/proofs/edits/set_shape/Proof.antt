@@ -1,30 +1,22 @@
 -- `set_shape` meets its contract. Assumes nothing.
-use native.Mathlib.Omega.{arith}
 use borrow.Author.Needs.{needs}
-use Rattle.player.proofs.Sets.{shape-refused, shape-facts, shape-set}
+use Rattle.player.proofs.Sets.{shape-refused, shape-set}
 use Rattle.player.proofs.edits.set_shape.Statement.{statement}
 use Rattle.player.proofs.edits.set_shape.Tie as tie
 
 returns : tie.Need-returns
 returns c =
     let q = c .before in
-    let s = q .before .before in
-    shape-refused _ (s .pre) _ _ _ _ _ (q .shape-answer .ensures) (c .if1 .taken)
-
-shape-of-requires : tie.Need-shape-of-requires
-shape-of-requires c κs =
-    let q = c .before in
-    let s = q .before .before in
-    let a = s .args in
-    omega (arith, shape-facts (a .p) (s .pre) (a .points) (a .count) (a .loopback) (a .strengths .now) _ (q .shape-answer .ensures) (c .if1 .left) .length-is)
+    let s = q .before in
+    shape-refused _ (s .pre) _ _ _ _ (q .shape-answer .ensures) (c .if1 .taken)
 
 returns-2 : tie.Need-returns-2
 returns-2 c =
     let m = c .before .before .before in
     let i = m .before in
     let q = i .before in
-    let s = q .before .before in
-    shape-set _ (s .pre) _ _ _ _ _ (q .shape-answer .ensures) (i .if1 .left) _ (m .shape-of .ensures .0) _ (c .edited .ensures)
+    let s = q .before in
+    shape-set _ (s .pre) _ _ _ _ (q .shape-answer .ensures) (i .if1 .left) _ (m .shape-of .ensures .0) _ (c .edited .ensures)
 
 pub set-shape-spec : {M : Type 1} → statement M
-set-shape-spec = tie.close (tie.spec (λ c κs. search needs) returns shape-of-requires (λ c κs. search needs) returns-2)
+set-shape-spec = tie.close (tie.spec (λ c κs. search needs) returns (λ c κs. search needs) (λ c κs. search needs) returns-2)

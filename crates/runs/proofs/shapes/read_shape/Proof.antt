@@ -8,25 +8,13 @@ use Rattle.runs.proofs.shapes.read_shape.Tie as tie
 returns : tie.Need-returns
 unfolding shape
 returns c =
-    let strengths = c .before .before .before .before .before in
-    let loopback = strengths .before .before in
+    let loopback = c .before .before .before in
     let points = loopback .before in
-    let count = points .before in (
-      chain _ (count .read-below .ensures .0)
-          (chain _ (points .read-points .ensures)
-          (chain _ (loopback .read-loopback .ensures)
-          (chain _ (strengths .read-list .ensures .0)
-          last))),
-      strengths .read-list .ensures .1,
-    )
+    let count = points .before in
+    chain _ (count .read-below .ensures .0)
+    (chain _ (points .read-points .ensures)
+    (chain _ (loopback .read-loopback .ensures)
+    last))
 
 pub read-shape-spec : {M : Type 1} → statement M
-read-shape-spec =
-    tie.close
-    (tie.spec
-    (λ c κs. search needs)
-    (λ c κs. search needs)
-    (λ c κs. search needs)
-    (λ c κs. search needs)
-    (λ c. search needs)
-    returns)
+read-shape-spec = tie.close (tie.spec (λ c κs. search needs) (λ c κs. search needs) (λ c κs. search needs) returns)
