@@ -2,10 +2,12 @@
 // rounded. It stands for `(point.curve * CURVE_RANGE).exp2()` of lfo/shape.rs.
 mod table;
 
+pub use table::entries;
 ghost use mathlib.Core.Path.{_≡_};
 ghost use Prim.Native.Nat.{_≤_};
 ghost use Rattle.floatlaws.specs.Numbers.{f64-1024};
 ghost use Rattle.floatlaws.specs.Rounded.{_×₆₄_};
+ghost use Rattle.bend.specs.Entries.{entries};
 ghost use Rattle.bend.specs.Grid.{clampedCurve, onGrid, gridIndex};
 ghost use Rattle.bend.specs.Strengths.{octaveOf, strengthAt, strengthOf};
 
@@ -40,15 +42,15 @@ fn octave(i: u64) -> u64
     if i < 2048 { i / 256 } else { 7 }
 }
 
-// The strength at an index. An entry has 31 digits, of which an `f32` keeps 24: seven are cut. The leading digit counts into the
-// exponent's field, and that of entry 256, which has 32, counts twice.
-fn strength_at(i: u64) -> f32
-    requires { ⌜ i ≤ 2048 ⌝ }
+// The strength at an index, by the table. An entry has 31 digits, of which an `f32` keeps 24: seven are cut. The leading digit counts into
+// the exponent's field, and that of entry 256, which has 32, counts twice.
+fn strength_at(table: &[u32; 257], i: u64) -> f32
+    requires { ⌜ (i ≤ 2048) × (now table ≡ entries) ⌝ }
     ensures { λ r. ⌜ r ≡ strengthAt i ⌝ }
 {
     let q = octave(i);
     let k = i - 256 * q;
-    let digits = narrow::cut_even(table::entry(k as usize) as u64, 7);
+    let digits = narrow::cut_even(table[k as usize] as u64, 7);
     f32::from_bits(((q + 122) * 8388608 + digits) as u32)
 }
 
@@ -57,5 +59,14 @@ fn strength_at(i: u64) -> f32
 pub fn strength(curve: f32) -> f32
     ensures { λ r. ⌜ r ≡ strengthOf curve ⌝ }
 {
-    strength_at(grid_index(curve))
+    let table = entries();
+    strength_by(&table, curve)
+}
+
+// The same by a table that is lent, so that many strengths need one copy of it.
+pub fn strength_by(table: &[u32; 257], curve: f32) -> f32
+    requires { ⌜ now table ≡ entries ⌝ }
+    ensures { λ r. ⌜ r ≡ strengthOf curve ⌝ }
+{
+    strength_at(table, grid_index(curve))
 }
