@@ -54,17 +54,9 @@ fn strength_at(table: &[u32; 257], i: u64) -> f32
     f32::from_bits(((q + 122) * 8388608 + digits) as u32)
 }
 
-// The strength of a bend, for every curve. Of one off the grid, which is refused, nothing is meant: it has that of the next multiple
-// towards 0.
-pub fn strength(curve: f32) -> f32
-    ensures { λ r. ⌜ r ≡ strengthOf curve ⌝ }
-{
-    let table = entries();
-    strength_by(&table, curve)
-}
-
-// The same by a table that is lent, so that many strengths need one copy of it.
-pub fn strength_by(table: &[u32; 257], curve: f32) -> f32
+// The strength of a bend, for every curve, by the table, which is lent so that many strengths need one copy of it. Of a curve off the
+// grid, which is refused, nothing is meant: it has the strength of the next multiple towards 0.
+pub fn strength(table: &[u32; 257], curve: f32) -> f32
     requires { ⌜ now table ≡ entries ⌝ }
     ensures { λ r. ⌜ r ≡ strengthOf curve ⌝ }
 {

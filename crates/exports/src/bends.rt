@@ -8,7 +8,8 @@ ghost use Rattle.bend.specs.Strengths.{strengthOf};
 pub extern "C" fn bend_strength(curve: f32) -> f32
     ensures { λ r. ⌜ r ≡ strengthOf curve ⌝ }
 {
-    bend::strength(curve)
+    let table = bend::entries();
+    bend::strength(&table, curve)
 }
 
 // Whether the clamped curve is a multiple of 1/1024.
