@@ -2,9 +2,9 @@
 use Prim.Native.Nat.{ℕ, zero, suc, _<_, min}
 use mathlib.Core.Path.{_≡_, refl, sym, subst}
 use mathlib.Core.Bool.{Bool, true, false, cond}
-use mathlib.Core.List.{List, [], _∷_}
+use mathlib.Core.List.{List}
 use native.Mathlib.Omega.{arith}
-use lib.Dec.{T, eqb→eq}
+use lib.Dec.{T}
 use lib.ListN.{getD, List·getD-append}
 use lib.Ieee.{Float, nan, lt, neg, ofBits}
 use Rattle.floatlaws.specs.Numbers.{f32-0}
@@ -37,7 +37,8 @@ use Rattle.curves.specs.Given.{noPointCodes, pointOf, givenPoints, givenShape}
 use Rattle.questions.proofs.Facts.{ShapeAccepted, shape-accepted}
 use Rattle.calls.specs.State.{State, newState, withSettings, withShape, withPath, withBus}
 use Rattle.calls.specs.Blocks.{pendingOf, playedState}
-use Rattle.calls.specs.Calls.{Call, settings, shape, path, bus, phase, block, questions, answer, accepts, bySettings, byTransport, makes, noPlayer, made, accepted, step, after}
+use Rattle.calls.specs.Calls.{Call, settings, shape, path, bus, phase, block, questions, answer, bySettings, byTransport, makes, noPlayer, made, accepted}
+use Rattle.calls.proofs.Kept.{kept-after}
 use Rattle.player.specs.declared.Player.{Player}
 use Rattle.player.specs.Player.{stateOf}
 use Rattle.reached.specs.Traces.{History}
@@ -112,21 +113,8 @@ accepted-drawn p (bus i z) e g = g
 accepted-drawn p (phase t) e g = g
 accepted-drawn p (block c n r x y) e g = played-drawn p (transportAt c) n (pendingOf r) g
 
-step-drawn : (p : State) (c : Call) → StateDrawn p → StateDrawn (step p c)
-unfolding step
-step-drawn p c g = go (accepts p c) refl
-  where
-    go : (b : Bool) → accepts p c ≡ b → StateDrawn (cond b (accepted p c) p)
-    go true e = accepted-drawn p c (eqb→eq (answer p c) 0 (yes-so e)) g
-    go false e = g
-
-after-drawn : (p : State) (cs : List Call) → StateDrawn p → StateDrawn (after p cs)
-unfolding after
-after-drawn p [] g = g
-after-drawn p (c ∷ cs) g = after-drawn (step p c) cs (step-drawn p c g)
-
 history-drawn : (p : Player) → History p → StateDrawn (stateOf p)
-history-drawn p h = subst StateDrawn (sym (history-state h)) (after-drawn (made (h .codes) (h .seed)) (h .calls) (made-drawn (h .codes) (h .seed)))
+history-drawn p h = subst StateDrawn (sym (history-state h)) (kept-after StateDrawn accepted-drawn (made (h .codes) (h .seed)) (h .calls) (made-drawn (h .codes) (h .seed)))
 
 -- ---- the strengths
 

@@ -1,8 +1,8 @@
 -- Every player that calls reach has settled settings, and curves that their kept points tell. Assumes nothing.
 use Prim.Native.Nat.{ℕ}
 use mathlib.Core.Path.{_≡_, refl}
-use mathlib.Core.Bool.{Bool, true, false, cond}
-use mathlib.Core.List.{List, [], _∷_}
+use mathlib.Core.Bool.{true}
+use mathlib.Core.List.{List}
 use lib.Ieee.{Float}
 use borrow.Author.Tests.{eqb-true}
 use Rattle.shape.specs.declared.Shape.{Shape}
@@ -21,7 +21,8 @@ use Rattle.questions.specs.Questions.{firstNo, settingsQuestions}
 use Rattle.questions.proofs.Facts.{settings-accepted}
 use Rattle.calls.specs.State.{State, newState, withSettings, withShape, withPath, withBus}
 use Rattle.calls.specs.Blocks.{pendingOf, playedState}
-use Rattle.calls.specs.Calls.{Call, settings, shape, path, bus, phase, block, questions, answer, accepts, bySettings, byTransport, makes, noPlayer, made, accepted, step, after}
+use Rattle.calls.specs.Calls.{Call, settings, shape, path, bus, phase, block, questions, answer, bySettings, byTransport, makes, noPlayer, made, accepted, after}
+use Rattle.calls.proofs.Kept.{kept-after}
 use Rattle.restart.specs.Rule.{Equal}
 use Rattle.restart.proofs.Kept.{KeptShape, KeptPath, default-shape, given-shape, default-path, given-path, same-shape, same-path}
 use Rattle.restart.proofs.Settled.{Settled, settled-stored, settled-default, Fine, settings-fine}
@@ -64,18 +65,8 @@ good-accepted p (bus k z) e g = record { settled = g .settled; shape-kept = g .s
 good-accepted p (phase c) e g = g
 good-accepted p (block c n r x y) e g = good-played p (transportAt c) n (pendingOf r) g
 
-good-step : (p : State) (c : Call) → Good p → Good (step p c)
-unfolding step
-good-step p c g = go (accepts p c) refl
-  where
-    go : (t : Bool) → accepts p c ≡ t → Good (cond t (accepted p c) p)
-    go true e = good-accepted p c (eqb-true (answer p c) 0 e) g
-    go false e = g
-
 pub good-after : (p : State) (cs : List Call) → Good p → Good (after p cs)
-unfolding after
-good-after p [] g = g
-good-after p (c ∷ cs) g = good-after (step p c) cs (good-step p c g)
+good-after = kept-after Good good-accepted
 
 -- ---- the frames of equal players read one curve
 
