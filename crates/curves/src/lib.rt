@@ -7,7 +7,7 @@ use shape::Loopback;
 use shape::Point;
 use shape::Shape;
 ghost use mathlib.Core.Path.{_≡_};
-ghost use Prim.Native.Nat.{_≤_, min};
+ghost use Prim.Native.Nat.{_≤_};
 ghost use lib.ListN.{length, replicate};
 ghost use Rattle.floatlaws.specs.Numbers.{f32-0};
 ghost use Rattle.listlaws.specs.Tables.{padded};

@@ -6,7 +6,7 @@ use player::Changed;
 use player::Player;
 use runs::Place;
 ghost use mathlib.Core.Path.{_≡_};
-ghost use Prim.Native.Nat.{ℕ, _≤_};
+ghost use Prim.Native.Nat.{_≤_};
 ghost use lib.ListN.{length, replicate};
 ghost use Rattle.floatlaws.specs.Numbers.{f32-0};
 ghost use Rattle.oracle.specs.Promises.{replyOf, nowhere, replied, turnOf, Turns};

@@ -1,8 +1,8 @@
--- The limits of questions 5 and 6, by their bit patterns; the test at the end holds each pattern to its number. Assumes nothing.
+-- The limits of question 6, by their bit patterns; the test at the end holds each pattern to its number. Assumes nothing.
 use mathlib.Core.Path.{_≡_, refl}
 use mathlib.Core.List.{List, [], _∷_}
-use lib.Ieee.{Float, binary32, binary64, ofBits, round, neg}
-use Rattle.floatlaws.specs.Numbers.{f32, f64}
+use lib.Ieee.{Float, binary64, ofBits, round, neg}
+use Rattle.floatlaws.specs.Numbers.{f64}
 
 abbrev pub f64-64 : Float
 f64-64 = ofBits binary64 0x4050_0000_0000_0000

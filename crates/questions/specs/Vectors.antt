@@ -2,7 +2,7 @@
 use Prim.Native.Nat.{ℕ, _-_, _^_}
 use mathlib.Core.Path.{_≡_, refl}
 use mathlib.Core.Bool.{true}
-use mathlib.Core.List.{List, [], _∷_, _++_}
+use mathlib.Core.List.{[], _∷_, _++_}
 use lib.ListN.{replicate}
 use lib.Ieee.{Float, nan, neg, lt, ofBits, round, le}
 use lib.Ieee.Scale.{finite}

@@ -2,7 +2,7 @@
 --     ahead-..     what is read takes one byte or more, and all of them are in the run
 --     steady-..    what is read, if it takes any byte, takes bytes of the run
 use Prim.Native.Nat.{ℕ, zero, suc, _+_, _^_, _≤_, _<_}
-use mathlib.Core.Path.{_≡_, refl, sym, _∙_}
+use mathlib.Core.Path.{_≡_, refl}
 use mathlib.Core.Bool.{Bool, true, false, cond}
 use mathlib.Core.List.{List}
 use native.Mathlib.Omega.{arith}
@@ -17,7 +17,7 @@ use Rattle.number.specs.Read.{leading, numberOf, shortest, judged, readFrom, re
 use Rattle.runs.specs.Parser.{Parsed, read, malformed, Parser, after, _then_, done}
 use Rattle.runs.specs.Fields.{parsed, number, below, f32, f64, numberIf, byteIf, f32If}
 use Rattle.runs.specs.Records.{rate, span, smooth, settings, scale, transport, restart}
-use Rattle.runs.specs.Curves.{kept, floats, list, modulation, point, points, loopback, shape, pathPoint, pathPoints, path}
+use Rattle.runs.specs.Curves.{kept, floats, list, modulation, point, loopback, shape, pathPoint, path}
 
 pub record Ahead {A : Type 0} (p : Parser A) : Type 0 where
   pub ahead : (run : List ℕ) (at : ℕ) (a : A) (next : ℕ) → p run at ≡ read a next → (at < next) × (next ≤ length run)
