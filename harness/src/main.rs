@@ -51,7 +51,7 @@ const SUBJECTS: [(&str, Compare, u64); 8] = [
     ("floats", floats::compare, 50_000_000),
     ("generators", generators::compare, 30_000_000),
     ("bend", bend::compare, 50_000_000),
-    ("curves", curves::compare, 10_000_000),
+    ("curves", curves::compare, 3_000_000),
     ("choices", choices::compare, 50_000_000),
     ("position", position::compare, 50_000_000),
     ("clock", clock::compare, 40_000_000),
