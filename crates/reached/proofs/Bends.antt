@@ -47,74 +47,74 @@ use Rattle.reached.proofs.Traces.{history-state}
 
 -- ---- a shape whose curves are clamped, and on the grid
 
-abbrev Drawn : Point → Type 0
-Drawn q = (q .curve ≡ clampedCurve (q .curve)) × T (onGrid (q .curve))
+abbrev PointOnGrid : Point → Type 0
+PointOnGrid q = (q .curve ≡ clampedCurve (q .curve)) × T (onGrid (q .curve))
 
-abbrev pub DrawnShape : Shape → Type 0
-DrawnShape s = (k : ℕ) → k < s .len → Drawn (getD (s .points) k noPoint)
+abbrev ShapeOnGrid : Shape → Type 0
+ShapeOnGrid s = (k : ℕ) → k < s .len → PointOnGrid (getD (s .points) k noPoint)
 
-default-drawn : DrawnShape defaultShape
+default-on-grid : ShapeOnGrid defaultShape
 unfolding defaultShape clampOf isMultiple lt neg ofBits
-default-drawn zero h = (refl, tt)
-default-drawn (suc zero) h = (refl, tt)
-default-drawn (suc (suc zero)) h = (refl, tt)
-default-drawn (suc (suc (suc k))) h = let z : ⊥ = omega arith in absurd z
+default-on-grid zero h = (refl, tt)
+default-on-grid (suc zero) h = (refl, tt)
+default-on-grid (suc (suc zero)) h = (refl, tt)
+default-on-grid (suc (suc (suc k))) h = let z : ⊥ = omega arith in absurd z
 
 module _ (points : List PointCodes) (count : ℕ) (loopback : LoopbackCodes) (a : ShapeAccepted true points count loopback) where
   abbrev n : ℕ
   n = min count 64
 
-  clamped-drawn : (k : ℕ) → k < n → Drawn (clampedPoint (getD (givenPoints points n) k noPoint))
+  clamped-on-grid : (k : ℕ) → k < n → PointOnGrid (clampedPoint (getD (givenPoints points n) k noPoint))
   unfolding givenPoints pointOf clampedPoint
-  clamped-drawn k h =
-      subst (λ (q : Point). Drawn (clampedPoint q)) (sym (getD-padded _ 64 blank n k noPoint h))
+  clamped-on-grid k h =
+      subst (λ (q : Point). PointOnGrid (clampedPoint q)) (sym (getD-padded _ 64 blank n k noPoint h))
       (sym (clamped-again (getD points k noPointCodes .curve)), yes-so (a .points-on-grid k h))
 
-  given-drawn : DrawnShape (givenShape points count loopback)
+  given-on-grid : ShapeOnGrid (givenShape points count loopback)
   unfolding givenShape shapeOf sortedArray
-  given-drawn k h =
+  given-on-grid k h =
       let given = givenPoints points n in
-      subst Drawn (sym (List·getD-append (sortedPoints given n) _ noPoint k (omega (arith, length-sorted given n)))) (sorted-all given Drawn n clamped-drawn k h)
+      subst PointOnGrid (sym (List·getD-append (sortedPoints given n) _ noPoint k (omega (arith, length-sorted given n)))) (sorted-all given PointOnGrid n clamped-on-grid k h)
 
 -- ---- a player
 
-abbrev StateDrawn : State → Type 0
-StateDrawn p = DrawnShape (p .lfo .shape)
+abbrev StateOnGrid : State → Type 0
+StateOnGrid p = ShapeOnGrid (p .lfo .shape)
 
-new-drawn : (seed : ℕ) (c : SettingsCode) → StateDrawn (bySettings (noPlayer seed) c (λ s. newState s seed))
+new-on-grid : (seed : ℕ) (c : SettingsCode) → StateOnGrid (bySettings (noPlayer seed) c (λ s. newState s seed))
 unfolding newState
-new-drawn seed (SettingsCode.Known s) = default-drawn
-new-drawn seed SettingsCode.Unknown = default-drawn
+new-on-grid seed (SettingsCode.Known s) = default-on-grid
+new-on-grid seed SettingsCode.Unknown = default-on-grid
 
-made-drawn : (c : SettingsCodes) (seed : ℕ) → StateDrawn (made c seed)
+made-on-grid : (c : SettingsCodes) (seed : ℕ) → StateOnGrid (made c seed)
 unfolding made
-made-drawn c seed = go (makes c)
+made-on-grid c seed = go (makes c)
   where
-    go : (b : Bool) → StateDrawn (cond b (bySettings (noPlayer seed) (settingsAt c) (λ s. newState s seed)) (noPlayer seed))
-    go true = new-drawn seed (settingsAt c)
-    go false = new-drawn seed SettingsCode.Unknown
+    go : (b : Bool) → StateOnGrid (cond b (bySettings (noPlayer seed) (settingsAt c) (λ s. newState s seed)) (noPlayer seed))
+    go true = new-on-grid seed (settingsAt c)
+    go false = new-on-grid seed SettingsCode.Unknown
 
-set-drawn : (p : State) (c : SettingsCode) → StateDrawn p → StateDrawn (bySettings p c (withSettings p))
+set-on-grid : (p : State) (c : SettingsCode) → StateOnGrid p → StateOnGrid (bySettings p c (withSettings p))
 unfolding withSettings
-set-drawn p (SettingsCode.Known s) g = g
-set-drawn p SettingsCode.Unknown g = g
+set-on-grid p (SettingsCode.Known s) g = g
+set-on-grid p SettingsCode.Unknown g = g
 
-played-drawn : (p : State) (c : TransportCode) (n : ℕ) (at : Pending) → StateDrawn p → StateDrawn (byTransport p c (λ t. playedState p t n at))
+played-on-grid : (p : State) (c : TransportCode) (n : ℕ) (at : Pending) → StateOnGrid p → StateOnGrid (byTransport p c (λ t. playedState p t n at))
 unfolding playedState
-played-drawn p (TransportCode.Known t) n at g = g
-played-drawn p TransportCode.Unknown n at g = g
+played-on-grid p (TransportCode.Known t) n at g = g
+played-on-grid p TransportCode.Unknown n at g = g
 
-accepted-drawn : (p : State) (c : Call) → answer p c ≡ 0 → StateDrawn p → StateDrawn (accepted p c)
+accepted-on-grid : (p : State) (c : Call) → answer p c ≡ 0 → StateOnGrid p → StateOnGrid (accepted p c)
 unfolding accepted withShape withPath withBus answer questions
-accepted-drawn p (settings c) e g = set-drawn p (settingsAt c) g
-accepted-drawn p (shape points count loopback) e g = given-drawn points count loopback (shape-accepted true points count loopback e)
-accepted-drawn p (path points n closed legs) e g = g
-accepted-drawn p (bus i z) e g = g
-accepted-drawn p (phase t) e g = g
-accepted-drawn p (block c n r x y) e g = played-drawn p (transportAt c) n (pendingOf r) g
+accepted-on-grid p (settings c) e g = set-on-grid p (settingsAt c) g
+accepted-on-grid p (shape points count loopback) e g = given-on-grid points count loopback (shape-accepted true points count loopback e)
+accepted-on-grid p (path points n closed legs) e g = g
+accepted-on-grid p (bus i z) e g = g
+accepted-on-grid p (phase t) e g = g
+accepted-on-grid p (block c n r x y) e g = played-on-grid p (transportAt c) n (pendingOf r) g
 
-history-drawn : (p : Player) → History p → StateDrawn (stateOf p)
-history-drawn p h = subst StateDrawn (sym (history-state h)) (kept-after StateDrawn accepted-drawn (made (h .codes) (h .seed)) (h .calls) (made-drawn (h .codes) (h .seed)))
+history-on-grid : (p : Player) → History p → StateOnGrid (stateOf p)
+history-on-grid p h = subst StateOnGrid (sym (history-state h)) (kept-after StateOnGrid accepted-on-grid (made (h .codes) (h .seed)) (h .calls) (made-on-grid (h .codes) (h .seed)))
 
 -- ---- the strengths
 
@@ -126,5 +126,5 @@ near-at curve e t =
 pub strengths-near : StrengthsNear
 unfolding shapeLists curvesOf
 strengths-near p h k l =
-    let d = history-drawn p h k l in
+    let d = history-on-grid p h k l in
     subst (λ (x : Float). Bends (getD (p .slot .lfo .shape .points) k noPoint .curve) x) (sym (getD-padded _ 64 f32-0 (p .slot .lfo .shape .len) k nan l)) (near-at _ (d .0) (d .1))
