@@ -1,7 +1,7 @@
 //! Adverse runs, the same for the same seed: mostly accepted calls at and about every limit, with edits between any two, and now and then a call
 //! that some question refuses (refused.rs) or bytes that are no run (spoiled.rs).
 use crate::lfo::{self, Lfo, Transport};
-use crate::player::{bits, settings_of, times};
+use crate::player::{bits, path_of, settings_of};
 use crate::questions;
 use crate::run::{Block, Call, Present, Run, Settings, settings_bits, transport_bits};
 use crate::values::{FEELS, KINDS, Values};
@@ -257,7 +257,7 @@ impl Adverse {
         self.smooths.push(smooth);
     }
 
-    /// A call by its tag, accepted unless the song has gone out of range or a curve is off the grid.
+    /// A call by its tag, accepted unless the song has gone out of range, a curve is off the grid or a path off the paper.
     pub fn call(&mut self, tag: usize) -> (Call, f32) {
         let call = match tag {
             0 => {
@@ -277,11 +277,12 @@ impl Adverse {
                 let x = self.place(&xs);
                 Call::ShapeAt { shape, x }
             }
-            _ => {
+            7 => {
                 let path = self.path();
-                let t = self.place(&times(&path.legs));
+                let t = self.place(&path_of(&path).times);
                 Call::PathAt { path, t }
             }
+            _ => Call::Legs(self.path()),
         };
         (call, 0.0)
     }
@@ -295,6 +296,7 @@ impl Adverse {
             14 | 15 => 4,
             16 => 6,
             17 => 7,
+            18 => 8,
             _ => 5,
         };
         if tag == 5 {
@@ -308,8 +310,8 @@ impl Adverse {
 
     // A call of its own that is refused: were anything of it kept, the next block would show it.
     fn refused(&mut self) {
-        let tag = match self.v.below(10) {
-            8 | 9 => 5,
+        let tag = match self.v.below(11) {
+            9 | 10 => 5,
             tag => tag as usize,
         };
         let mut call = if tag == 5 {

@@ -79,7 +79,7 @@ fn entry(k: usize) -> u64 {
 }
 
 /// The f32 nearest to n / 2^s, ties to even, for an n of more than 24 binary digits and a normal result.
-fn nearest(n: u64, s: u32) -> f32 {
+pub fn nearest(n: u64, s: u32) -> f32 {
     let cut = n.ilog2() - 23;
     let (digits, rest, half) = (n >> cut, n % (1 << cut), 1 << (cut - 1));
     let up = rest > half || (rest == half && digits % 2 == 1);

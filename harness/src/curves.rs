@@ -1,6 +1,7 @@
 //! `shape` and `path` against lfo/shape.rs: every float of the segment found, its value, the unmodulated value, the coordinates, the times.
 use crate::ffi;
-use crate::lfo::{Lfo, MAX_POINTS, Path, PathPoint, Point, PointMod, Shape};
+use crate::lfo::{Lfo, MAX_POINTS, PathPoint, Point, PointMod, Shape};
+use crate::player::TimedPath;
 use crate::tally::Tally;
 use crate::values::Values;
 
@@ -56,6 +57,16 @@ impl Values {
             1 => x.next_down(),
             _ => x,
         }
+    }
+
+    // on the paper once it is clamped
+    fn drawn(&mut self) -> f32 {
+        if self.one_in(12) {
+            let far = [f32::MAX, f32::MIN, f32::INFINITY, f32::NEG_INFINITY];
+            let near = [1.0f32.next_up(), -1e-45, 1.5, -0.5];
+            return self.of(&[far, near].concat());
+        }
+        self.on_paper()
     }
 
     // at or next to a point, at the ends, past them
@@ -194,22 +205,14 @@ fn path_points(v: &mut Values) -> Vec<PathPoint> {
             continue;
         }
         points.push(PathPoint {
-            x: v.about(1.0),
-            y: v.about(1.0),
+            x: v.drawn(),
+            y: v.drawn(),
             bend: v.about(1.0) * v.of(&[1.0, -1.0, 0.0]),
             x_mod: v.modulation(),
             y_mod: v.modulation(),
         });
     }
     points
-}
-
-// The length of each segment, as `Path::set_points` measures it.
-fn legs(path: &Path) -> Vec<f32> {
-    let points = path.points();
-    let next = |j: usize| points[(j + 1) % points.len()];
-    let length = |j: usize| (next(j).x - points[j].x).hypot(next(j).y - points[j].y);
-    (0..points.len()).map(length).collect()
 }
 
 fn one_path(t: &mut Tally, v: &mut Values) {
@@ -226,35 +229,35 @@ fn one_path(t: &mut Tally, v: &mut Values) {
     }
     let packed = Packed::path(&points);
     let (floats, bytes, count) = (&packed.floats[..], &packed.bytes[..], points.len());
-    let path = Path::new(&points, closed);
-    let (n, legs) = (path.len(), legs(&path));
+    let path = TimedPath::new(&points, closed);
+    let n = path.path.len();
     let (mut xs, mut ys): (Places, Places) = ([0.0; MAX_POINTS], [0.0; MAX_POINTS]);
-    path.modulated(&buses, &mut xs, &mut ys);
+    path.path.modulated(&buses, &mut xs, &mut ys);
     let input = || format!("{points:?}, closed {closed}, buses {buses:?}");
     for i in 0..n {
         for (y, rust) in [(false, xs[i]), (true, ys[i])] {
-            let ours = ffi::path_place(floats, bytes, &legs, &buses, count, closed, y, i);
+            let ours = ffi::path_place(floats, bytes, &buses, count, closed, y, i);
             t.f32(ours, rust, || {
                 format!("place of point {i}, y {y}, of {}", input())
             });
         }
     }
     let times: Vec<f32> = (0..=n)
-        .map(|j| ffi::path_time(floats, bytes, &legs, count, closed, j))
+        .map(|j| ffi::path_time(floats, bytes, count, closed, j))
         .collect();
     compare_times(t, &path, &times, input);
     for _ in 0..4 {
         let at = v.position(&times);
         let (segment, (x, y)) = Lfo::path_segment_(&path, &xs, &ys, at);
         for (which, float) in segment.into_iter().chain([x, y]).enumerate() {
-            let ours = ffi::path_segment(floats, bytes, &legs, &buses, count, closed, at, which);
+            let ours = ffi::path_segment(floats, bytes, &buses, count, closed, at, which);
             t.f32(ours, float, || {
                 format!("float {which} of the segment at {at:e} of {}", input())
             });
         }
-        let (x, y) = path.value(at);
+        let (x, y) = Lfo::path_at_(&path, at);
         for (which, float) in [x, y].into_iter().enumerate() {
-            let ours = ffi::path_value(floats, bytes, &legs, count, closed, at, which);
+            let ours = ffi::path_value(floats, bytes, count, closed, at, which);
             t.f32(ours, float, || {
                 format!("value {which} at {at:e} of {}", input())
             });
@@ -263,7 +266,7 @@ fn one_path(t: &mut Tally, v: &mut Values) {
 }
 
 // The Rust's times are private: its segments from 0 on have them as their bounds. A segment of no time is passed over.
-fn compare_times(t: &mut Tally, path: &Path, times: &[f32], input: impl Fn() -> String) {
+fn compare_times(t: &mut Tally, path: &TimedPath, times: &[f32], input: impl Fn() -> String) {
     let zeros = [0.0; MAX_POINTS];
     let mut at = 0.0;
     loop {

@@ -1,9 +1,8 @@
 //! Adverse shapes and paths: no point to more than are kept, equal and nearly equal coordinates, zeros of both signs, modulation of any bus,
-//! bends on the grid of 1/1024 and now and then off it, legs that are the source's own or any others that are accepted.
+//! bends on the grid of 1/1024 and paths on the paper of 4,096 squares a side, and now and then off it.
 use crate::adverse::Adverse;
-use crate::lfo::PathPoint;
-use crate::player::{bits, legs};
-use crate::run::{self, Mod, Path, Point, Present, Shape};
+use crate::player::bits;
+use crate::run::{Mod, Path, PathPoint, Point, Present, Shape};
 
 impl Adverse {
     fn points(&mut self) -> usize {
@@ -98,38 +97,58 @@ impl Adverse {
         }
     }
 
+    // On the paper; often the same as another one, or a square from it.
+    fn square(&mut self, before: &[f32]) -> f32 {
+        if before.is_empty() || !self.v.one_in(3) {
+            return self.v.on_paper();
+        }
+        let c = self.v.of(before);
+        let step = 1.0 / 4096.0;
+        self.v.of(&[c, c, (c + step).min(1.0), (c - step).max(0.0)])
+    }
+
+    /// A path, now and then of no length, which is refused where a point is off the paper.
     pub fn path(&mut self) -> Path {
         let (mut xs, mut ys): (Vec<f32>, Vec<f32>) = (vec![], vec![]);
         let mut points = vec![];
+        let (off, still) = (self.v.one_in(24), self.v.one_in(24));
         for _ in 0..self.points() {
-            let (x, y) = (self.coordinate(&xs), self.coordinate(&ys));
+            let (mut x, mut y) = match (still, xs.first(), ys.first()) {
+                (true, Some(x), Some(y)) => (*x, *y),
+                _ => (self.square(&xs), self.square(&ys)),
+            };
+            if off && self.v.one_in(4) {
+                let place = if self.v.yes() { &mut x } else { &mut y };
+                *place = self.v.off_paper();
+            }
             xs.push(x);
             ys.push(y);
             let bend = self.v.about(1.0);
-            points.push(run::PathPoint {
+            points.push(PathPoint {
                 x: bits(x),
                 y: bits(y),
                 bend: bits(self.v.of(&[0.0, bend, -bend])),
                 mods: self.mods(),
             });
         }
-        let closed = self.v.yes();
-        let drawn: Vec<PathPoint> = (xs.iter().zip(&ys))
-            .map(|(x, y)| PathPoint::new(*x, *y))
-            .collect();
-        let mut own: Vec<u32> = legs(&drawn, closed).into_iter().map(bits).collect();
-        if self.v.one_in(8) {
-            let all = self.v.of(&[None, None, Some(0.0), Some(1e-45)]);
-            for leg in &mut own {
-                let any = self.v.unit_f32() * 2.0;
-                let one = self.v.of(&[0.0, -0.0, 2.0, any, any, any, 1e-45]);
-                *leg = bits(all.unwrap_or(one));
-            }
+        if self.v.yes() {
+            self.past_the_last_square(&mut points);
         }
         Path {
-            closed: closed.into(),
+            closed: self.v.yes().into(),
             points,
-            legs: own,
+        }
+    }
+
+    fn past_the_last_square(&mut self, points: &mut [PathPoint]) {
+        for p in points.iter_mut().skip(64) {
+            let (off, any) = (bits(self.v.off_paper()), self.v.word() as u32);
+            let other = self
+                .v
+                .of(&[bits(f32::NAN), bits(f32::INFINITY), off, off, any]);
+            (p.x, p.y) = self.v.of(&[(other, p.y), (p.x, other), (other, off)]);
+            p.bend = self.v.of(&[bits(f32::NAN), p.bend]);
+            p.mods[1] = self.v.of(&[Present::Unknown(2), p.mods[1]]);
         }
     }
 

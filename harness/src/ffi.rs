@@ -61,6 +61,9 @@ on_numbers! {
     bend_strength(curve: f32) -> f32;
     bend_on_grid(curve: f32) -> bool;
 
+    path_leg(ax: f32, ay: f32, bx: f32, by: f32) -> f32;
+    path_on_paper(c: f32) -> bool;
+
     random_mix(seed: u64) -> u64;
     random_word(word: u64) -> u64;
     random_value(word: u64) -> f32;
@@ -100,10 +103,10 @@ on_slices! {
     shape_segment(floats: [f32], bytes: [u8], buses: [f32]; count: usize, x: f32, which: usize) -> f32;
     shape_value(floats: [f32], bytes: [u8]; count: usize, x: f32) -> f32;
     shape_place(floats: [f32], bytes: [u8], buses: [f32]; count: usize, y: bool, i: usize) -> f32;
-    path_segment(floats: [f32], bytes: [u8], legs: [f32], buses: [f32]; count: usize, closed: bool, t: f32, which: usize) -> f32;
-    path_value(floats: [f32], bytes: [u8], legs: [f32]; count: usize, closed: bool, t: f32, which: usize) -> f32;
-    path_place(floats: [f32], bytes: [u8], legs: [f32], buses: [f32]; count: usize, closed: bool, y: bool, i: usize) -> f32;
-    path_time(floats: [f32], bytes: [u8], legs: [f32]; count: usize, closed: bool, j: usize) -> f32;
+    path_segment(floats: [f32], bytes: [u8], buses: [f32]; count: usize, closed: bool, t: f32, which: usize) -> f32;
+    path_value(floats: [f32], bytes: [u8]; count: usize, closed: bool, t: f32, which: usize) -> f32;
+    path_place(floats: [f32], bytes: [u8], buses: [f32]; count: usize, closed: bool, y: bool, i: usize) -> f32;
+    path_time(floats: [f32], bytes: [u8]; count: usize, closed: bool, j: usize) -> f32;
 
     clock_word(words: [u64]; part: usize, group: usize, which: usize) -> u64;
 

@@ -1,16 +1,18 @@
 //! What the runs of a comparison tried, so that a reader sees that everything was tried.
 use crate::bend::{source_strength, strength};
 use crate::lfo::{LfoType, MAX_POINTS, Mode, Rate, Settings, Span, Transport};
-use crate::player::Heard;
+use crate::player::{Heard, path_of};
 use crate::questions::{self, APPLY};
-use crate::run::{Block, Point, Present, Shape};
+use crate::run::{Block, Path, PathPoint, Point, Present, Shape};
 use std::fmt;
 
-pub const CALLS: [&str; 9] = [
-    "settings", "shape", "path", "bus", "phase", "block", "shape at", "path at", "make",
+pub const CALLS: [&str; 10] = [
+    "settings", "shape", "path", "bus", "phase", "block", "shape at", "path at", "legs", "make",
 ];
 /// The place of making a player in lists by tag.
-pub const MAKE: usize = 8;
+pub const MAKE: usize = 9;
+/// One more than the greatest number of a question.
+const NUMBERS: usize = 12;
 
 /// How a run's output ends.
 #[derive(Clone, Copy, Debug, PartialEq)]
@@ -28,12 +30,15 @@ pub struct Figures {
     pub endings: [u64; 3],
     pub short: u64,
     /// Calls by tag and answer.
-    pub answers: [[u64; 11]; 9],
+    pub answers: [[u64; NUMBERS]; 10],
     /// Calls by tag, answer and a later question that they fail too.
-    pairs: [[[u64; 11]; 11]; 9],
+    pairs: [[[u64; NUMBERS]; NUMBERS]; 10],
     /// Accepted shapes with a curve that is clamped, with a strength that is not the source's, with a dropped point off the grid; refused ones of which
     /// the 64th of more points alone is off it.
     shapes: [u64; 4],
+    /// Accepted paths with a coordinate of −0, with one of 1, with a leg that is not the source's, with a dropped point off the paper; refused ones that are
+    /// off it in x alone, in y alone, at the 64th of more points alone.
+    paths: [u64; 7],
     /// Frames by kind and mode.
     kinds: [[u64; 3]; 5],
     /// Frames of shapes and paths by direction.
@@ -147,6 +152,32 @@ impl Figures {
         count(&mut self.shapes[3], answer == 10 && last, 1);
     }
 
+    /// A path handed in, and the answer.
+    pub fn path(&mut self, path: &Path, answer: u64) {
+        let (kept, dropped) = path.points.split_at(path.points.len().min(MAX_POINTS));
+        let (x_off, y_off) = (
+            |p: &PathPoint| !questions::on_paper(p.x),
+            |p: &PathPoint| !questions::on_paper(p.y),
+        );
+        let off = |p: &PathPoint| x_off(p) || y_off(p);
+        let has = |c: f32| {
+            kept.iter()
+                .any(|p| p.x == c.to_bits() || p.y == c.to_bits())
+        };
+        if answer == 0 {
+            count(&mut self.paths[0], has(-0.0), 1);
+            count(&mut self.paths[1], has(1.0), 1);
+            count(&mut self.paths[2], !path_of(path).own, 1);
+            count(&mut self.paths[3], dropped.iter().any(off), 1);
+        }
+        if answer == 11 {
+            count(&mut self.paths[4], !kept.iter().any(y_off), 1);
+            count(&mut self.paths[5], !kept.iter().any(x_off), 1);
+            let last = !dropped.is_empty() && !kept[..MAX_POINTS - 1].iter().any(off);
+            count(&mut self.paths[6], last, 1);
+        }
+    }
+
     /// How many of a player's blocks the bank played too, and how often it gave other bits.
     pub fn bank(&mut self, blocks: u64, by_bank: u64, differed: u64) {
         self.by_bank += by_bank;
@@ -180,7 +211,7 @@ impl Figures {
     /// How often an answer came, and which later questions these calls fail too.
     fn answer(&self, tag: usize, n: usize) -> String {
         let also = |later: &usize| self.pairs[tag][n][*later] > 0;
-        let later: Vec<String> = (0..11)
+        let later: Vec<String> = (0..NUMBERS)
             .filter(also)
             .map(|later| format!("{later}: {}", self.pairs[tag][n][later]))
             .collect();
@@ -214,7 +245,7 @@ impl fmt::Display for Figures {
             "  answers by call (0, then the number of the question, with the later ones that these calls fail too):"
         )?;
         for (tag, name) in CALLS.iter().enumerate() {
-            let counts: Vec<String> = (0..11)
+            let counts: Vec<String> = (0..NUMBERS)
                 .filter(|n| self.answers[tag][*n] > 0)
                 .map(|n| self.answer(tag, n))
                 .collect();
@@ -224,6 +255,11 @@ impl fmt::Display for Figures {
         writeln!(
             f,
             "  shapes: curve clamped {clamped}, strength not the source's {other}, dropped point off the grid {dropped}, refused by the 64th of more points alone {last}"
+        )?;
+        let [minus, one, other, dropped, x, y, last] = self.paths;
+        writeln!(
+            f,
+            "  paths: coordinate −0 {minus}, 1 {one}, leg not the source's {other}, dropped point off the paper {dropped}; refused by x alone {x}, by y alone {y}, by the 64th of more points alone {last}"
         )?;
         writeln!(f, "  frames by kind (Free, Restart, One-shot):")?;
         let kinds = ["Drawn", "Path", "Lorenz", "Rössler", "Sample-and-Hold"];

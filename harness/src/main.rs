@@ -20,6 +20,7 @@ mod ffi;
 mod figures;
 mod floats;
 mod generators;
+mod legs;
 mod numbers;
 mod player;
 mod position;
@@ -47,10 +48,11 @@ use values::Values;
 type Compare = fn(&mut Tally, &mut Values);
 
 /// Each subject with the number of values of a short run, which takes about a minute.
-const SUBJECTS: [(&str, Compare, u64); 8] = [
+const SUBJECTS: [(&str, Compare, u64); 9] = [
     ("floats", floats::compare, 50_000_000),
     ("generators", generators::compare, 30_000_000),
     ("bend", bend::compare, 50_000_000),
+    ("legs", legs::compare, 20_000_000),
     ("curves", curves::compare, 3_000_000),
     ("choices", choices::compare, 50_000_000),
     ("position", position::compare, 50_000_000),
@@ -64,8 +66,9 @@ const USAGE: &str = "usage: harness/run vectors chaos|curves
        harness/run compare SUBJECT|all [COUNT] [SEED]
        harness/run compare runs [COUNT] [SEED] [FRAMES]
        harness/run compare bend long
+       harness/run compare legs long
        harness/run compare runs long
-SUBJECT is floats, generators, bend, curves, choices, position, clock or numbers; COUNT the least number of values of each.
+SUBJECT is floats, generators, bend, legs, curves, choices, position, clock or numbers; COUNT the least number of values of each.
 BYTES are those of a run, in hexadecimal.
 Of runs, COUNT is the least number of runs and FRAMES of frames; run i has the seed SEED + i.";
 
@@ -127,6 +130,13 @@ fn every_curve() -> bool {
     tally.show()
 }
 
+/// Compares `leg` on all 2^32 coordinates, and many legs.
+fn every_coordinate() -> bool {
+    let mut tally = Tally::new("legs", 1, 1 << 32);
+    legs::compare_all(&mut tally, &mut Values::new(1));
+    tally.show()
+}
+
 /// Compares whole runs: COUNT, SEED, FRAMES.
 fn runs(words: &[&str]) -> bool {
     if !is_release() {
@@ -171,6 +181,7 @@ fn main() {
             true
         }
         ["compare", "bend", "long"] => every_curve(),
+        ["compare", "legs", "long"] => every_coordinate(),
         ["compare", "runs", "long"] => runs::compare_long(),
         ["compare", "runs", ref rest @ ..] => runs(rest),
         ["compare", subject] => compare(subject, None, 1),

@@ -3,7 +3,7 @@
 //! then its fields, a float by its bits.
 use super::*;
 use crate::bend::strengths;
-use crate::player::{Heard, Supplied};
+use crate::player::{Heard, Supplied, TimedPath};
 
 // chaos.rs
 impl Lfo {
@@ -43,14 +43,19 @@ impl LfoVoice {
     }
 }
 
-// shape.rs: segments by their floats, and their values; a drawn one takes our strength
+// shape.rs: segments by their floats, and their values; a drawn one takes our strength, a path's our times where the source has others
 impl Lfo {
     pub fn drawn_segment_(shape: &Shape, xs: &[f32], ys: &[f32], x: f32) -> ([f32; 7], f32) {
         let s = strong_segment(shape, xs, ys, x);
         ([s.lo, s.hi, s.x0, s.inv_w, s.y0, s.dy, s.e], s.eval(x))
     }
-    pub fn path_segment_(path: &Path, xs: &[f32], ys: &[f32], t: f32) -> ([f32; 10], (f32, f32)) {
-        let s = path_segment(path, xs, ys, t);
+    pub fn path_segment_(
+        path: &TimedPath,
+        xs: &[f32],
+        ys: &[f32],
+        t: f32,
+    ) -> ([f32; 10], (f32, f32)) {
+        let s = segment_of(path, xs, ys, t);
         let [ax, dx, nx, ay, dy, ny] = s.c;
         (
             [s.lo, s.hi, s.t0, s.inv_w, ax, dx, nx, ay, dy, ny],
@@ -176,21 +181,21 @@ impl Lfo {
         let n = shape.len();
         strong_segment(shape, &xs[..n], &ys[..n], x).eval(x)
     }
-    pub fn path_moved_(path: &Path, buses: &[f32], t: f32) -> (f32, f32) {
+    pub fn path_moved_(path: &TimedPath, buses: &[f32], t: f32) -> (f32, f32) {
         let (mut xs, mut ys) = ([0.0; MAX_POINTS], [0.0; MAX_POINTS]);
-        path.modulated(buses, &mut xs, &mut ys);
-        path_segment(path, &xs, &ys, t).eval(t)
+        path.path.modulated(buses, &mut xs, &mut ys);
+        segment_of(path, &xs, &ys, t).eval(t)
     }
 }
 
-// ---- a block with our strengths and with supplied numbers
+// ---- a block with our strengths and times, and with a supplied coefficient
 //
 // The source computes the coefficient in `prepare`, a strength where a segment is found, and keeps the times of a path private to shape.rs. So
-// the block's coefficient is set, a segment found takes our strength, and a path's segment is found by the supplied times here.
+// the block's coefficient is set, a segment found takes our strength, and a path's segment is found by our times here.
 
-// A path's segment at t by the times that the supplied legs give. What holds a value does not depend on them; of the others, the source gives
-// the coefficients, by a path of the segment's two points.
-fn supplied_segment(path: &Path, times: &[f32], xs: &[f32], ys: &[f32], t: f32) -> PathSegment {
+// A path's segment at t by the times that our legs give. What holds a value does not depend on them; of the others, the source gives the
+// coefficients, by a path of the segment's two points.
+fn timed_segment(path: &Path, times: &[f32], xs: &[f32], ys: &[f32], t: f32) -> PathSegment {
     let found = path_segment(path, xs, ys, t);
     if found.inv_w == 0.0 {
         return found;
@@ -205,6 +210,14 @@ fn supplied_segment(path: &Path, times: &[f32], xs: &[f32], ys: &[f32], t: f32) 
         inv_w: 1.0 / (times[a + 1] - times[a]),
         c: path_segment(&two, &[xs[a], xs[b]], &[ys[a], ys[b]], 0.0).c,
     }
+}
+
+// `path_segment`, with our times where the source has others.
+fn segment_of(path: &TimedPath, xs: &[f32], ys: &[f32], t: f32) -> PathSegment {
+    if path.own {
+        return path_segment(&path.path, xs, ys, t);
+    }
+    timed_segment(&path.path, &path.times, xs, ys, t)
 }
 
 // Our strength of the segment's first point, where the segment is a curve.
@@ -224,7 +237,7 @@ fn strong_segment(shape: &Shape, xs: &[f32], ys: &[f32], x: f32) -> Segment {
 }
 
 impl Lfo {
-    // `render_with`, the segments taking their strengths and times from what is supplied.
+    // `render_with`, the segments taking their strengths and times from ours.
     fn stretch(
         &self,
         block: &Block,
@@ -244,11 +257,11 @@ impl Lfo {
             }
             heard.last = Some(c);
             heard.zeros |= one_shot && c == 0.0 && c.is_sign_negative();
-            if let (LfoType::Path, Some(times)) = (s.kind, &supplied.times) {
+            if s.kind == LfoType::Path {
                 let p = position(s.mode, s.direction, c, None) as f32;
                 if !voice.path_seg.contains(p) {
                     voice.path_seg =
-                        supplied_segment(&self.path, times, &voice.xs, &voice.ys, p);
+                        timed_segment(&self.path, &supplied.times, &voice.xs, &voice.ys, p);
                 }
             }
             let stage = self.stage(block, voice, k);
@@ -264,7 +277,7 @@ impl Lfo {
     }
 
     /// `process_scalar` with one voice, its few lines and those of `render_parts` written anew, so that other numbers can stand in for
-    /// computed ones: the block's coefficient, each segment's strength, and, where they are not the source's own, the times of the path.
+    /// computed ones: the block's coefficient, each segment's strength and the times of the path.
     pub fn play_(
         &mut self,
         voice: &mut LfoVoice,
@@ -296,10 +309,11 @@ impl Lfo {
         strong_segment(shape, &xs, &ys, x).eval(x)
     }
 
-    /// `Path::value` with the times that supplied legs give.
-    pub fn path_at_(path: &Path, times: &[f32], t: f32) -> (f32, f32) {
-        let (mut xs, mut ys) = ([0.0; MAX_POINTS], [0.0; MAX_POINTS]);
-        path.modulated(&[], &mut xs, &mut ys);
-        supplied_segment(path, times, &xs, &ys, t).eval(t)
+    /// `Path::value`, with our times where the source has others.
+    pub fn path_at_(path: &TimedPath, t: f32) -> (f32, f32) {
+        if path.own {
+            return path.path.value(t);
+        }
+        Self::path_moved_(path, &[], t)
     }
 }

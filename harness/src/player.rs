@@ -1,10 +1,11 @@
-//! The player by the Rust source: an `Lfo` and an `LfoVoice`, played by `Lfo::play_` (opened.rs), which takes our strengths (bend.rs), and legs
-//! and a coefficient as they are handed in. As long as these are what the source computes itself, an `LfoBank` with one voice gets the same
-//! calls and plays the same blocks by `process_scalar`, and both must give the same bits.
+//! The player by the Rust source: an `Lfo` and an `LfoVoice`, played by `Lfo::play_` (opened.rs), which takes our strengths (bend.rs), the times that
+//! our legs give (legs.rs), and a coefficient as it is handed in. As long as these are what the source computes itself, an `LfoBank` with one voice
+//! gets the same calls and plays the same blocks by `process_scalar`, and both must give the same bits.
 use crate::bend::{source_strength, strengths};
+use crate::legs::{self, legs};
 use crate::lfo::{
-    Division, Lfo, LfoBank, LfoVoice, MAX_POINTS, Path, PathPoint, Point, PointMod, Rate, Scale,
-    Settings, Shape, Span, Transport,
+    Division, Lfo, LfoBank, LfoVoice, Path, PathPoint, Point, PointMod, Rate, Scale, Settings,
+    Shape, Span, Transport,
 };
 use crate::run::{self, Present};
 use crate::tally::bits32;
@@ -19,8 +20,8 @@ pub struct Supplied {
     pub smooth: Option<f32>,
     /// Ours, one to each point of the shape, as the points are sorted.
     pub strengths: Vec<f32>,
-    /// The times of the path's points, where its legs are not the source's own.
-    pub times: Option<Vec<f32>>,
+    /// By our legs, when each point of the path is reached.
+    pub times: Vec<f32>,
 }
 
 /// Of a block: the last frame's count with swing, and whether `max` was put the zeros −0 and 0.
@@ -114,47 +115,46 @@ pub fn shape_of(s: &run::Shape) -> Shape {
     shape
 }
 
-/// The path, with the times of its points where its legs are not the source's own.
-pub fn path_of(path: &run::Path) -> (Path, Option<Vec<f32>>) {
-    let points: Vec<PathPoint> = path
-        .points
-        .iter()
-        .map(|p| PathPoint {
-            x: f32::from_bits(p.x),
-            y: f32::from_bits(p.y),
-            bend: f32::from_bits(p.bend),
-            x_mod: modulation(&p.mods[0]),
-            y_mod: modulation(&p.mods[1]),
-        })
-        .collect();
-    let made = Path::new(&points, path.closed == 1);
-    let own = legs(&points, path.closed == 1);
-    let times =
-        (own.iter().copied().map(bits).ne(path.legs.iter().copied())).then(|| times(&path.legs));
-    (made, times)
+/// A path with the times that our legs give to its points.
+pub struct TimedPath {
+    pub path: Path,
+    pub times: Vec<f32>,
+    /// Whether the source has the bits of each leg too.
+    pub own: bool,
 }
 
-/// The legs that the source computes for a path.
-pub fn legs(points: &[PathPoint], closed: bool) -> Vec<f32> {
-    let kept: Vec<[f32; 2]> = points
-        .iter()
-        .take(MAX_POINTS)
-        .map(|p| [p.x.clamp(0.0, 1.0), p.y.clamp(0.0, 1.0)])
-        .collect();
-    let count = crate::questions::segments(kept.len(), closed.into());
-    (0..count)
-        .map(|j| {
-            let (a, b) = (kept[j], kept[(j + 1) % kept.len()]);
-            (b[0] - a[0]).hypot(b[1] - a[1])
-        })
-        .collect()
+impl TimedPath {
+    pub fn new(points: &[PathPoint], closed: bool) -> Self {
+        let ours = legs(points, closed, legs::ours);
+        let source = legs(points, closed, legs::source);
+        Self {
+            path: Path::new(points, closed),
+            times: times(&ours),
+            own: ours.into_iter().map(bits).eq(source.into_iter().map(bits)),
+        }
+    }
+}
+
+pub fn path_points(path: &run::Path) -> Vec<PathPoint> {
+    let point = |p: &run::PathPoint| PathPoint {
+        x: f32::from_bits(p.x),
+        y: f32::from_bits(p.y),
+        bend: f32::from_bits(p.bend),
+        x_mod: modulation(&p.mods[0]),
+        y_mod: modulation(&p.mods[1]),
+    };
+    path.points.iter().map(point).collect()
+}
+
+pub fn path_of(path: &run::Path) -> TimedPath {
+    TimedPath::new(&path_points(path), path.closed == 1)
 }
 
 /// Running sums of the legs over their total; with total 0, j / segments.
-pub fn times(legs: &[u32]) -> Vec<f32> {
+fn times(legs: &[f32]) -> Vec<f32> {
     let mut sums = vec![0.0f32];
     for leg in legs {
-        sums.push(sums[sums.len() - 1] + f32::from_bits(*leg));
+        sums.push(sums[sums.len() - 1] + leg);
     }
     let total = sums[legs.len()];
     let spread = |j: usize, sum: f32| {
@@ -206,16 +206,17 @@ impl Player {
     pub fn new(s: &run::Settings, seed: u64, smooth: f32) -> Self {
         let slot = Lfo::new(settings_of(s, smooth), seed.wrapping_sub(GOLDEN));
         let lfo = Lfo::new(settings_of(s, 0.0), seed);
+        let default = TimedPath::new(lfo.path().points(), lfo.path().closed());
         let supplied = Supplied {
             smooth: coefficient(s),
             strengths: strengths(lfo.shape()),
-            times: None,
+            times: default.times,
         };
         Self {
             lfo,
             voice: LfoVoice::new(seed),
             supplied,
-            bank: Some(LfoBank::new(slot, 1)),
+            bank: default.own.then(|| LfoBank::new(slot, 1)),
             by_bank: 0,
             bank_differed: 0,
         }
@@ -244,8 +245,8 @@ impl Player {
     }
 
     pub fn set_path(&mut self, p: &run::Path) {
-        let (path, times) = path_of(p);
-        if times.is_some() {
+        let TimedPath { path, times, own } = path_of(p);
+        if !own {
             self.bank = None;
         }
         if let Some(bank) = &mut self.bank {

@@ -101,6 +101,15 @@ fn transport_finite(t: &Transport) -> bool {
     doubles.iter().all(|x| f64::from_bits(*x).is_finite()) && finite(t.swing) && percent
 }
 
+// ---- 11: is each path coordinate a multiple of 1/4096 within 0 to 1?
+
+/// Of a coordinate's bits, as it is handed in; −0 is 0, and a NaN is not one.
+pub fn on_paper(bits: u32) -> bool {
+    // the product is exact
+    let squares = f64::from(f32::from_bits(bits)) * 4096.0;
+    (0.0..=4096.0).contains(&squares) && squares == squares.trunc()
+}
+
 // ---- 10: is the clamped curve on the grid of 1/1024?
 
 /// Of a curve's bits; a NaN is not.
@@ -165,15 +174,7 @@ fn shape(s: &Shape, x: u32) -> Asked {
     ]
 }
 
-/// How many segments the kept points of a path have.
-pub fn segments(points: usize, closed: u64) -> usize {
-    match points.min(MAX_POINTS) {
-        0 | 1 => 0,
-        n if closed == 1 => n,
-        n => n - 1,
-    }
-}
-
+/// A path, and a further float of the call.
 fn path(p: &Path, t: u32) -> Asked {
     let kept = &p.points[..p.points.len().min(MAX_POINTS)];
     let codes = yes_or_no(p.closed) && kept.iter().all(|p| p.mods.iter().all(is_known));
@@ -182,9 +183,8 @@ fn path(p: &Path, t: u32) -> Asked {
         .all(|p| all_finite(&[p.x, p.y, p.bend]) && mods_finite(&p.mods));
     vec![
         (1, codes),
-        (2, floats && all_finite(&p.legs) && finite(t)),
-        (3, p.legs.len() == segments(kept.len(), p.closed)),
-        (5, p.legs.iter().all(|leg| within(*leg, 0.0, 2.0))),
+        (2, floats && finite(t)),
+        (11, kept.iter().all(|p| on_paper(p.x) && on_paper(p.y))),
     ]
 }
 
@@ -214,7 +214,7 @@ fn asked(call: &Call, played: u64) -> Asked {
     match call {
         Call::Settings(s) => settings_asked(s),
         Call::Shape(s) => shape(s, 0),
-        Call::Path(p) => path(p, 0),
+        Call::Path(p) | Call::Legs(p) => path(p, 0),
         Call::Bus { bus, value } => vec![(2, finite(*value)), (9, *bus < 16)],
         Call::Phase(t) => phase(t),
         Call::Block(b) => block(b, played),
@@ -234,15 +234,16 @@ pub fn failed(call: &Call, played: u64) -> Vec<u64> {
     asked.iter().filter(|q| !q.1).map(|q| q.0).collect()
 }
 
-/// The questions that apply to making a player (place 8) and to the call of each tag.
-pub const APPLY: [&[u64]; 9] = [
+/// The questions that apply to making a player (place 9) and to the call of each tag.
+pub const APPLY: [&[u64]; 10] = [
     &[1, 2, 5],
     &[1, 2, 4, 10],
-    &[1, 2, 3, 5],
+    &[1, 2, 11],
     &[2, 9],
     &[1, 2, 6],
     &[1, 2, 6, 7, 8],
     &[1, 2, 4, 10],
-    &[1, 2, 3, 5],
+    &[1, 2, 11],
+    &[1, 2, 11],
     &[1, 2, 5],
 ];

@@ -4,7 +4,7 @@ use crate::run::{
     Transport,
 };
 
-/// The most points or legs that a list may count.
+/// The most points that a list may count.
 const COUNT: u64 = 4096;
 /// The greatest length of a buffer.
 const LENGTH: u64 = 8192;
@@ -115,11 +115,6 @@ impl<'a> Reader<'a> {
         (0..count).map(|_| read(self)).collect()
     }
 
-    fn floats(&mut self) -> Option<Vec<u32>> {
-        let count = self.at_most(COUNT)?;
-        self.list(count, Self::float)
-    }
-
     fn point(&mut self) -> Option<Point> {
         Some(Point {
             x: self.float()?,
@@ -152,7 +147,6 @@ impl<'a> Reader<'a> {
         Some(Path {
             closed: self.number()?,
             points: self.list(count, Self::path_point)?,
-            legs: self.floats()?,
         })
     }
 
@@ -202,6 +196,7 @@ impl<'a> Reader<'a> {
                 path: self.path()?,
                 t: self.float()?,
             },
+            8 => Call::Legs(self.path()?),
             _ => return None,
         })
     }

@@ -1,8 +1,9 @@
 //! What `lfo_run` is to give: the bytes of a run read by RUN.md (reading.rs), the questions (questions.rs) and the player by the Rust source
 //! (player.rs).
 use crate::figures::{Ending, Figures, MAKE};
+use crate::legs::{self, legs};
 use crate::lfo::{Lfo, Mode};
-use crate::player::{Player, path_of, shape_of, transport_of};
+use crate::player::{Player, path_of, path_points, shape_of, transport_of};
 use crate::questions;
 use crate::reading::Reader;
 use crate::run::{Block, Call, Path, Settings, Shape, put_number};
@@ -43,11 +44,12 @@ fn shape_at(shape: &Shape, x: u32) -> f32 {
 }
 
 fn path_at(path: &Path, t: u32) -> (f32, f32) {
-    let t = f32::from_bits(t);
-    match path_of(path) {
-        (path, None) => path.value(t),
-        (path, Some(times)) => Lfo::path_at_(&path, &times, t),
-    }
+    Lfo::path_at_(&path_of(path), f32::from_bits(t))
+}
+
+/// By whole numbers.
+fn legs_of(path: &Path) -> Vec<f32> {
+    legs(&path_points(path), path.closed == 1, legs::exact)
 }
 
 struct Playing<'a> {
@@ -83,8 +85,12 @@ impl Playing<'_> {
         let failed = questions::failed(call, self.frames);
         let answer = failed.first().copied().unwrap_or(0);
         self.figures.failed(call.tag(), &failed);
-        if let Call::Shape(s) | Call::ShapeAt { shape: s, .. } = call {
-            self.figures.shape(s, answer);
+        match call {
+            Call::Shape(s) | Call::ShapeAt { shape: s, .. } => self.figures.shape(s, answer),
+            Call::Path(p) | Call::PathAt { path: p, .. } | Call::Legs(p) => {
+                self.figures.path(p, answer);
+            }
+            _ => {}
         }
         self.put(answer);
         if let Call::Block(b) = call {
@@ -109,6 +115,13 @@ impl Playing<'_> {
                     let (x, y) = path_at(path, *t);
                     self.float(x);
                     self.float(y);
+                }
+                Call::Legs(path) => {
+                    let legs = legs_of(path);
+                    self.put(legs.len() as u64);
+                    for leg in legs {
+                        self.float(leg);
+                    }
                 }
             }
         }

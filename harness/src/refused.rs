@@ -1,5 +1,5 @@
-//! Makes a call one that some question refuses: an unknown code, a float that is not finite, a list of another length, a number out of range, a
-//! curve off the grid. One fault, or two, so that the order of the questions shows.
+//! Makes a call one that some question refuses: an unknown code, a float that is not finite, a number out of range, a curve off the grid, a path off
+//! the paper. One fault, or two, so that the order of the questions shows.
 use crate::player::bits;
 use crate::questions;
 use crate::run::{Block, Call, Mod, Path, Present, Rate, Scale, Settings, Shape, Span, Transport};
@@ -110,25 +110,6 @@ fn mods(v: &mut Values, mods: &mut [Present<Mod>; 2], code: bool) {
     };
 }
 
-// One more, one less, none.
-fn length(v: &mut Values, list: &mut Vec<u32>, other: u32) {
-    match v.below(4) {
-        0 => list.push(other),
-        1 => list.clear(),
-        2 => list.resize(64, other),
-        _ => {
-            list.pop();
-        }
-    }
-}
-
-fn outside(v: &mut Values, list: &mut [u32], out: &[f32]) {
-    if !list.is_empty() {
-        let (i, x) = (v.index(list.len()), v.of(out));
-        list[i] = bits(x);
-    }
-}
-
 // A curve off the grid, of any kept point, the first or the last; with a step too, and where that is the 64th of more.
 fn off_grid(v: &mut Values, s: &mut Shape) {
     if v.one_in(6) {
@@ -169,12 +150,31 @@ fn shape(v: &mut Values, s: &mut Shape) {
     }
 }
 
+// A coordinate off the paper, of any kept point, the first or the last, in x, in y or in both; and where that is the 64th of more.
+fn off_paper(v: &mut Values, p: &mut Path) {
+    if v.one_in(6) {
+        let last = p.points[p.points.len() - 1];
+        p.points.resize(p.points.len().max(65 + v.index(6)), last);
+    }
+    let kept = p.points.len().min(64);
+    let any = v.index(kept);
+    let point = &mut p.points[v.of(&[any, any, 0, kept - 1])];
+    let (x, y) = (bits(v.off_paper()), bits(v.off_paper()));
+    (point.x, point.y) = v.of(&[
+        (x, point.y),
+        (x, point.y),
+        (point.x, y),
+        (point.x, y),
+        (x, y),
+    ]);
+}
+
 fn path(v: &mut Values, p: &mut Path) {
     let kept = p.points.len().min(64);
     let at = v.index(kept.max(1));
     match v.below(7) {
         0 => p.closed = unknown(v, 2),
-        1 | 2 if kept > 0 => {
+        1..4 if kept > 0 => {
             let point = &mut p.points[at];
             match v.below(5) {
                 0 => mods(v, &mut point.mods, true),
@@ -184,16 +184,8 @@ fn path(v: &mut Values, p: &mut Path) {
                 _ => mods(v, &mut point.mods, false),
             }
         }
-        3 if !p.legs.is_empty() => {
-            let i = v.index(p.legs.len());
-            p.legs[i] = not_finite(v);
-        }
-        4 => length(v, &mut p.legs, bits(0.5)),
-        5 if p.closed < 2 => p.closed = 1 - p.closed,
-        _ => {
-            let out = [-1e-45, 2.0f32.next_up(), -1.0, f32::MAX];
-            outside(v, &mut p.legs, &out);
-        }
+        _ if kept > 0 => off_paper(v, p),
+        _ => {}
     }
 }
 
@@ -255,7 +247,7 @@ fn fault(v: &mut Values, call: &mut Call) {
     match call {
         Call::Settings(s) => settings(v, s),
         Call::Shape(s) => shape(v, s),
-        Call::Path(p) => path(v, p),
+        Call::Path(p) | Call::Legs(p) => path(v, p),
         Call::Bus { bus, value } => {
             if v.yes() {
                 let any = v.number().max(16);

@@ -83,7 +83,6 @@ pub struct PathPoint {
 pub struct Path {
     pub closed: u64,
     pub points: Vec<PathPoint>,
-    pub legs: Vec<u32>,
 }
 
 #[derive(Clone, Copy, Debug, PartialEq)]
@@ -117,6 +116,7 @@ pub enum Call {
     Block(Block),
     ShapeAt { shape: Shape, x: u32 },
     PathAt { path: Path, t: u32 },
+    Legs(Path),
 }
 
 impl Call {
@@ -130,6 +130,7 @@ impl Call {
             Self::Block(_) => 5,
             Self::ShapeAt { .. } => 6,
             Self::PathAt { .. } => 7,
+            Self::Legs(_) => 8,
         }
     }
 }
@@ -196,11 +197,6 @@ impl Numbers {
         }
     }
 
-    fn floats(&mut self, list: &[u32]) {
-        self.put(list.len() as u64);
-        self.0.extend(list.iter().map(|x| u64::from(*x)));
-    }
-
     fn shape(&mut self, s: &Shape) {
         self.put(s.points.len() as u64);
         for p in &s.points {
@@ -216,7 +212,6 @@ impl Numbers {
             self.all([p.x, p.y, p.bend].map(u64::from));
             self.mods(&p.mods);
         }
-        self.floats(&path.legs);
     }
 
     fn transport(&mut self, t: &Transport) {
@@ -234,7 +229,7 @@ impl Numbers {
         match call {
             Call::Settings(s) => self.settings(s),
             Call::Shape(s) => self.shape(s),
-            Call::Path(p) => self.path(p),
+            Call::Path(p) | Call::Legs(p) => self.path(p),
             Call::Bus { bus, value } => self.all([*bus, (*value).into()]),
             Call::Phase(t) => self.transport(t),
             Call::Block(b) => {

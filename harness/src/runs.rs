@@ -43,6 +43,8 @@ fn place(e: &Entry, i: usize) -> String {
     match i {
         0 => "the answer".into(),
         1 if before == 1 => "finished".into(),
+        1 if e.tag == 8 => "the count of legs".into(),
+        _ if e.tag == 8 => format!("leg {}", i - 2),
         _ if e.tag != 5 => format!("value {i}"),
         _ if i - first < x_len => format!("x of frame {}", i - first),
         _ => format!("y of frame {}", i - first - x_len),

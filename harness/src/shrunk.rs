@@ -1,7 +1,8 @@
 //! A run that differs, made shorter; and a run as a reader can read it.
 use crate::bend::strengths;
 use crate::figures::{CALLS, Figures};
-use crate::player::{path_of, settings_of, shape_of, transport_of};
+use crate::legs::{self, legs};
+use crate::player::{path_of, path_points, settings_of, shape_of, transport_of};
 use crate::questions;
 use crate::reading::Reader;
 use crate::reference::play;
@@ -44,10 +45,8 @@ fn smaller(call: &Call) -> Option<Call> {
         Call::Shape(s) | Call::ShapeAt { shape: s, .. } => {
             s.points.pop()?;
         }
-        Call::Path(p) | Call::PathAt { path: p, .. } => {
+        Call::Path(p) | Call::PathAt { path: p, .. } | Call::Legs(p) => {
             p.points.pop()?;
-            p.legs
-                .truncate(questions::segments(p.points.len(), p.closed));
         }
         _ => return None,
     }
@@ -79,11 +78,11 @@ fn show_call(i: usize, call: &Call) {
             }
             println!("    loopback {:?}", shape.loopback());
         }
-        Call::Path(p) | Call::PathAt { path: p, .. } => {
-            for point in path_of(p).0.points() {
+        Call::Path(p) | Call::PathAt { path: p, .. } | Call::Legs(p) => {
+            for point in path_of(p).path.points() {
                 println!("    {point:?}");
             }
-            let legs: Vec<f32> = p.legs.iter().map(|leg| f32::from_bits(*leg)).collect();
+            let legs = legs(&path_points(p), p.closed == 1, legs::ours);
             println!("    closed {}, legs {legs:?}", p.closed);
         }
         Call::Bus { bus, value } => println!("    {bus} to {:e}", f32::from_bits(*value)),

@@ -49,10 +49,9 @@ fn past_64_bits(v: &mut Values) -> Vec<u8> {
 // A call whose tag or list is too long, or a buffer too long.
 fn behind(v: &mut Values, way: u64) -> Vec<u64> {
     match way {
-        0 => vec![v.of(&[8, 9, 127, 128, 255, 256, 1 << 32, u64::MAX])],
+        0 => vec![v.of(&[9, 10, 127, 128, 255, 256, 1 << 32, u64::MAX])],
         1 => vec![v.of(&[1, 6]), v.of(&[4097, 5000, 1 << 32])],
-        2 => vec![v.of(&[2, 7]), v.of(&[4097, 65_536, 1 << 40]), 0],
-        3 => vec![v.of(&[2, 7]), 0, 0, v.of(&[4097, u64::MAX])],
+        2 => vec![v.of(&[2, 7, 8]), v.of(&[4097, 65_536, 1 << 40]), 0],
         _ => {
             let one = 1.0f64.to_bits();
             let (x_len, y_len) = v.of(&[(8193, 0), (0, 8193), (1 << 32, 4), (4, u64::MAX)]);
@@ -73,7 +72,7 @@ pub fn by(v: &mut Values, run: &Run, way: u64) -> Vec<u8> {
         3 => bytes = with(&numbers, i, &too_large(v, numbers[i])),
         4 => bytes = with(&numbers, i, &past_64_bits(v)),
         5 | 6 => {
-            let way = v.below(5);
+            let way = v.below(4);
             for n in behind(v, way) {
                 put_number(&mut bytes, n);
             }

@@ -6,7 +6,7 @@ use crate::lfo::{Direction, Division, Feel, LfoType, Mode, Rate, Scale, Settings
 use crate::player::bits;
 use crate::questions::{self, APPLY};
 use crate::reference::play;
-use crate::run::{Call, Point, Present, Shape, settings_bits};
+use crate::run::{Call, Path as RunPath, Point, Present, Shape, settings_bits};
 use crate::runs::hex;
 use crate::values::{DIRECTIONS, FEELS, KINDS, MODES, Values};
 use crate::written::{Written, bent, bowed, eighth, hertz, moved, path, point, synced};
@@ -330,11 +330,6 @@ fn evaluations(list: &mut List) {
         };
         add(list, w().with(at(true, ts[0])).with(at(false, ts[1])));
     }
-    // legs other than the source's
-    let mut p = bowed(true);
-    p.legs = [0.0, 2.0, 0.5].map(bits).to_vec();
-    let w = Written::new(&eighth(LfoType::Path, Mode::Restart)).with(Call::Path(p));
-    add(list, w.block(8, NONE));
 }
 
 // ---- bends
@@ -431,6 +426,136 @@ fn off_the_grid(list: &mut List) {
     }
 }
 
+// ---- legs
+
+const SQUARE: f32 = 1.0 / 4096.0;
+
+// A path through squares of the paper.
+fn through(squares: &[(u32, u32)], closed: bool) -> RunPath {
+    let place = |s: &(u32, u32)| (s.0 as f32 * SQUARE, s.1 as f32 * SQUARE, 0.0);
+    let places: Vec<_> = squares.iter().map(place).collect();
+    path(&places, closed)
+}
+
+// A path of so many points all over the paper, which no bus moves.
+fn scattered(count: u32, closed: bool) -> RunPath {
+    let squares: Vec<_> = (0..count)
+        .map(|i| (i * i * 37 % 4097, i * 1009 % 4097))
+        .collect();
+    let mut p = through(&squares, closed);
+    for point in &mut p.points {
+        point.mods = [Present::No; 2];
+    }
+    p
+}
+
+fn legs(list: &mut List) {
+    let w = || Written::new(&eighth(LfoType::Path, Mode::Restart));
+    // of no point, of one and of two, of 64 and of more, of which the first 64 count
+    for count in [0, 1, 2, 3, 64, 70] {
+        for closed in [false, true] {
+            let p = scattered(count, closed);
+            let w = w().with(Call::Legs(p.clone())).with(Call::Path(p));
+            add(list, w.block(2, NONE));
+        }
+    }
+    // one square, its diagonal, 3 and 4 squares; corners; what a float formula gets wrong in the last digit; the same point again
+    for squares in [
+        [(0, 0), (1, 0), (2, 1), (5, 5)],
+        [(0, 0), (4096, 4096), (4096, 0), (1, 4096)],
+        [(0, 0), (2897, 2898), (2897, 2898), (4096, 4095)],
+    ] {
+        let p = through(&squares, true);
+        let at = Call::PathAt {
+            path: p.clone(),
+            t: bits(0.6),
+        };
+        let w = w().with(Call::Legs(p.clone())).with(at);
+        add(list, w.with(Call::Path(p)).block(6, NONE));
+    }
+}
+
+// A path and the legs of a path, handed in one after the other, and the path at its start.
+fn by_each(p: RunPath) -> Written {
+    let w = Written::new(&eighth(LfoType::Path, Mode::Restart));
+    let at = Call::PathAt {
+        path: p.clone(),
+        t: 0,
+    };
+    let w = w.with(Call::Path(p.clone())).block(2, NONE);
+    w.with(at).with(Call::Legs(p))
+}
+
+fn set_coordinate(p: &mut RunPath, i: usize, y: bool, c: f32) {
+    let point = &mut p.points[i];
+    *(if y { &mut point.y } else { &mut point.x }) = bits(c);
+}
+
+fn with_coordinate(i: usize, y: bool, c: f32) -> RunPath {
+    let mut p = bowed(i != 1);
+    set_coordinate(&mut p, i, y, c);
+    p
+}
+
+// Coordinates on the paper and about it: of a square and next to it, between two, at the edges and past them.
+fn about_the_paper(list: &mut List) {
+    let square = 24.0 * SQUARE;
+    for c in [
+        square,
+        square.next_up(),
+        square.next_down(),
+        SQUARE / 2.0,
+        1.0 - SQUARE,
+        1.0 - SQUARE / 2.0,
+        1.0,
+        1.0f32.next_up(),
+        1.0f32.next_down(),
+        1.0 + SQUARE,
+        1.5,
+        f32::MAX,
+        0.0,
+        -0.0,
+        1e-45,
+        -1e-45,
+        -SQUARE,
+        -1.0,
+        f32::MIN,
+    ] {
+        let call = |y: bool| Call::Legs(with_coordinate(2, y, c));
+        let w = by_each(with_coordinate(1, false, c));
+        add(list, w.with(call(false)).with(call(true)));
+    }
+}
+
+// A coordinate off the paper: of each point, in x and in y; with what another question asks before; of the 64th point and of the 65th.
+fn off_the_paper(list: &mut List) {
+    for i in [0, 1, 2] {
+        for y in [false, true] {
+            add(list, by_each(with_coordinate(i, y, 0.3)));
+        }
+    }
+    let earlier: [fn(&mut RunPath); 6] = [
+        |p| p.closed = 2,
+        |p| p.points[1].mods[0] = Present::Unknown(3),
+        |p| p.points[0].x = bits(f32::NAN),
+        |p| p.points[2].y = bits(f32::INFINITY),
+        |p| p.points[2].bend = bits(f32::NEG_INFINITY),
+        |p| p.points[1].mods[1] = moved(1, f32::NAN),
+    ];
+    for fault in earlier {
+        let mut p = with_coordinate(1, true, 0.3);
+        fault(&mut p);
+        add(list, by_each(p));
+    }
+    for (count, i) in [(64, 63), (70, 63), (70, 64), (65, 64)] {
+        for y in [false, true] {
+            let mut p = scattered(count, y);
+            set_coordinate(&mut p, i, y, -SQUARE);
+            add(list, by_each(p));
+        }
+    }
+}
+
 fn phases(list: &mut List) {
     for mode in MODES {
         let s = Settings {
@@ -489,6 +614,7 @@ fn refusal(a: &mut Adverse, tag: usize, number: u64) -> Written {
                 path: bowed(true),
                 t: 0,
             },
+            8 => Call::Legs(bowed(true)),
             _ => a.call(tag).0,
         };
         refused::refuse(&mut a.v, &mut call);
@@ -504,7 +630,6 @@ fn refusal(a: &mut Adverse, tag: usize, number: u64) -> Written {
                 w.run.settings = s;
                 w
             }
-            Call::Path(_) if number == 3 => w.with(call).block(2, NONE),
             _ => w.with(call).block(1, NONE),
         };
     }
@@ -593,6 +718,9 @@ pub fn runs(dir: &Path) {
     evaluations(&mut list);
     bends(&mut list);
     off_the_grid(&mut list);
+    legs(&mut list);
+    about_the_paper(&mut list);
+    off_the_paper(&mut list);
     phases(&mut list);
     refusals(&mut list);
     malformed(&mut list);

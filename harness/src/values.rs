@@ -2,7 +2,7 @@
 use crate::lfo::{
     Direction, Division, Feel, LfoType, Mode, Rate, Scale, Settings, Span, Transport,
 };
-use crate::questions::on_grid;
+use crate::questions::{on_grid, on_paper};
 
 /// SplitMix64.
 pub struct Values(u64);
@@ -220,6 +220,38 @@ impl Values {
             };
             if !on_grid(curve.to_bits()) {
                 return curve;
+            }
+        }
+    }
+
+    /// A coordinate that is a multiple of 1/4096 from 0 to 1: its ends and the zeros of both signs, squares next to the ends, few squares and many.
+    pub fn on_paper(&mut self) -> f32 {
+        let squares = match self.below(16) {
+            0 => 0,
+            1 => return -0.0,
+            2 => 4096,
+            3 => self.of(&[1, 2, 3, 4095, 4094, 2048]),
+            4 => self.below(17) * 256,
+            5 => self.below(64),
+            _ => self.below(4097),
+        };
+        squares as f32 / 4096.0
+    }
+
+    /// A finite coordinate that is not: next to a multiple, between two, below 0, above 1, tiny, any.
+    pub fn off_paper(&mut self) -> f32 {
+        loop {
+            let (on, any) = (self.on_paper(), self.about(1.0));
+            let c = match self.below(6) {
+                0 => self.of(&[on.next_up(), on.next_down()]),
+                1 => on + self.of(&[1.0, -1.0]) / 8192.0,
+                2 => -on,
+                3 => 1.0 + on,
+                4 => self.of(&[1e-45, -1e-45, 1e-40, 1.0f32.next_up(), 1.0f32.next_down()]),
+                _ => any,
+            };
+            if !on_paper(c.to_bits()) {
+                return c;
             }
         }
     }

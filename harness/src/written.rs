@@ -1,8 +1,8 @@
 //! Runs written by hand, call by call, and the curves that they set.
-use crate::lfo::{Division, Feel, LfoType, Mode, PathPoint, Rate, Settings, Span, Transport};
-use crate::player::{bits, legs};
+use crate::lfo::{Division, Feel, LfoType, Mode, Rate, Settings, Span, Transport};
+use crate::player::bits;
 use crate::run::{
-    self, Block, Call, Mod, Path, Point, Present, Run, Shape, settings_bits, transport_bits,
+    Block, Call, Mod, Path, PathPoint, Point, Present, Run, Shape, settings_bits, transport_bits,
 };
 use crate::values::MODES;
 
@@ -64,8 +64,7 @@ pub fn bent() -> Shape {
 }
 
 pub fn path(places: &[(f32, f32, f32)], closed: bool) -> Path {
-    let drawn: Vec<PathPoint> = places.iter().map(|p| PathPoint::new(p.0, p.1)).collect();
-    let points = places.iter().map(|(x, y, bend)| run::PathPoint {
+    let points = places.iter().map(|(x, y, bend)| PathPoint {
         x: bits(*x),
         y: bits(*y),
         bend: bits(*bend),
@@ -74,7 +73,6 @@ pub fn path(places: &[(f32, f32, f32)], closed: bool) -> Path {
     Path {
         closed: closed.into(),
         points: points.collect(),
-        legs: legs(&drawn, closed).into_iter().map(bits).collect(),
     }
 }
 

@@ -1,37 +1,30 @@
 -- What the proofs of `on_grid` and `grid_index` cite: 1024 times a clamped curve is exact in an `f64`, so that its whole part and what is left are those of the definitions. Assumes nothing.
-use mathlib.Core.Path.{_≡_, refl, sym, ap, _∙_, subst}
+use mathlib.Core.Path.{_≡_, refl}
 use mathlib.Core.Logic.{_⊎_, inl, inr}
 use mathlib.Core.Bool.{Bool, true, false, not, cond}
-use Prim.Native.Nat.{ℕ, _+_, _-_, _*_, _/_, _^_, _≤_, zero-le}
-use native.Mathlib.Nat.{le-trans, le-of-eq, lt-of-lt-of-le, lt-of-le-of-lt, mul-one, mul-assoc, mul-right-comm, div-le-of-le-mul}
+use Prim.Native.Nat.{ℕ, _+_, _-_, _*_, _/_, _≤_, zero-le}
+use native.Mathlib.Nat.{le-trans, div-le-of-le-mul}
 use native.Mathlib.Omega.{arith}
 use lib.IntN.{ℤ, pos}
 use lib.Dec.{T, lit≤}
-use lib.Pow.{pow-add, shl-lt}
-use lib.Ieee.{Float, nan, inf, fin, binary32, binary64, up, down, round, neg, mul, lt, eq, le, fits, isNan, ofBits, toUnsigned}
-use lib.Ieee.Fits.{down-pos, mul-fits, cond-fits, neg-fits}
+use lib.Ieee.{Float, nan, inf, fin, binary32, binary64, up, down, neg, mul, lt, eq, le, fits, isNan, ofBits, toUnsigned}
+use lib.Ieee.Fits.{down-pos, neg-fits}
 use lib.Ieee.Bits.{ofBits-fits}
-use lib.Ieee.Exact.{HasValue, round-exact}
 use Rattle.floatlaws.specs.Extrema.{clampOf}
 use Rattle.floatlaws.specs.Whole.{wholeOf, toZero}
 use Rattle.floatlaws.specs.Numbers.{f32-1, f32-minus1, f64-1024}
-use Rattle.floatlaws.proofs.Extrema.{clamp-bounds}
+use Rattle.floatlaws.proofs.Extrema.{clamp-bounds, clamp-fits}
 use Rattle.floatlaws.specs.Size.{Sized}
 use Rattle.floatlaws.specs.Multiples.{isMultiple, multiplesIn}
 use Rattle.floatlaws.proofs.Size.{size-of-range}
-use Rattle.floatlaws.proofs.Unique.{fits-held, held-units}
-use Rattle.floatlaws.proofs.Values.{neg-value, unlike-plus}
-use Rattle.floatlaws.proofs.Multiples.{is-whole, unsigned-value}
+use Rattle.floatlaws.proofs.Values.{neg-value}
+use Rattle.floatlaws.proofs.Multiples.{unsigned-value, scaled-value, multiple-tested}
 use Rattle.bend.specs.Grid.{clampedCurve, onGrid, gridIndex}
 
 -- ---- the clamped curve: an `f32`, and a NaN or at most 1 in size
 
 clamped-fits : (curve : Float) → T (fits binary32 curve) → T (fits binary32 (clampedCurve curve))
-unfolding clampOf
-clamped-fits curve h =
-    let one = ofBits-fits binary32 0x3f80_0000 in
-    cond-fits binary32 (lt curve f32-minus1) f32-minus1 (cond (lt f32-1 curve) f32-1 curve) (neg-fits binary32 f32-1 one)
-    (cond-fits binary32 (lt f32-1 curve) f32-1 curve one h)
+clamped-fits curve h = let one = ofBits-fits binary32 0x3f80_0000 in clamp-fits binary32 curve f32-minus1 f32-1 h (neg-fits binary32 f32-1 one) one
 
 within : (curve : Float) → T (not (isNan curve)) → Sized (clampedCurve curve) 1
 within curve h =
@@ -53,32 +46,11 @@ clamped-again curve = go (lt curve f32-minus1) (lt f32-1 curve) refl refl
     go false true h k = rw (h, k) (unfold lt neg ofBits in refl)
     go false false h k = rw (h, k) (rw (h, k) refl)
 
--- ---- the product
+-- ---- 1024, by which it is multiplied
 
 scale-is : f64-1024 ≡ fin false 1 (pos 10)
 unfolding ofBits
 scale-is = refl
-
-product-is : (s : Bool) (m : ℕ) (e : ℤ) → mul binary64 (fin s m e) f64-1024 ≡ round binary64 s (m * up e * 1024) (down e)
-product-is s m e =
-    ap (mul binary64 (fin s m e)) scale-is
-    ∙ unfold mul in
-    (ap (λ (u : Bool). round binary64 u (m * up e * 1024) (down e * 1)) (unlike-plus s) ∙ ap (round binary64 s (m * up e * 1024)) (mul-one (down e)))
-
-product-value : (s : Bool) (m : ℕ) (e : ℤ) → T (fits binary32 (fin s m e)) → HasValue (mul binary64 (fin s m e) f64-1024) s (m * up e * 1024) (down e)
-product-value s m e t =
-    let h = fits-held binary32 s m e t in
-    let u = held-units binary32 m e h in
-    let j = u .0 in
-    let n = m * up e in
-    subst (λ (y : Float). HasValue y s (n * 1024) (down e)) (sym (product-is s m e))
-    (round-exact binary64 s (n * 1024) (down e) m (j + 935) (down-pos e) (lt-of-lt-of-le (h .0) (lit≤ tt))
-    (lt-of-le-of-lt (le-of-eq (ap (λ (z : ℕ). m * z) (pow-add 2 j 935) ∙ sym (mul-assoc m (2 ^ j) (2 ^ 935)))) (lt-of-lt-of-le (shl-lt 277 935 (u .3)) (lit≤ tt)))
-    (mul-assoc n 1024 (2 ^ 1074)
-    ∙ sym (mul-assoc n (2 ^ 149) (2 ^ 935))
-    ∙ ap (λ (z : ℕ). z * 2 ^ 935) (u .2)
-    ∙ mul-right-comm (m * 2 ^ j) (down e) (2 ^ 935)
-    ∙ ap (λ (z : ℕ). z * down e) (mul-assoc m (2 ^ j) (2 ^ 935) ∙ ap (λ (z : ℕ). m * z) (sym (pow-add 2 j 935)))))
 
 -- ---- of a clamped curve x and 1024 times it: what `on_grid` tests, and what `grid_index` adds and takes off
 
@@ -94,18 +66,18 @@ signs true q a b h k l = omega arith
 signs false q a b h k l = omega arith
 
 finite-read : (s : Bool) (m : ℕ) (e : ℤ) → T (fits binary32 (fin s m e)) → m * up e ≤ 1 * down e → Read (fin s m e) (mul binary64 (fin s m e) f64-1024)
-unfolding isMultiple gridIndex multiplesIn
+unfolding gridIndex multiplesIn
 finite-read s m e t h =
     let y = mul binary64 (fin s m e) f64-1024 in
     let n = m * up e * 1024 in
     let d = down e in
     let D = down-pos e in
-    let v = product-value s m e t in
+    let v = scaled-value 10 (lit≤ tt) f64-1024 scale-is s m e t in
     let N : n ≤ d * 1024 = omega arith in
     let q = div-le-of-le-mul d N in
     let u = le-trans q (lit≤ tt) in
     let r = signs s (n / d) (toUnsigned 64 y) (toUnsigned 64 (neg y)) q (unsigned-value 64 y s n d D v u) (unsigned-value 64 (neg y) (not s) n d D (neg-value y s n d v) u) in
-    (is-whole binary64 y s n d D v (mul-fits binary64 (fin s m e) f64-1024), r .0, r .1, r .2)
+    (multiple-tested 10 (lit≤ tt) f64-1024 scale-is s m e t, r .0, r .1, r .2)
 
 read : (x : Float) → T (fits binary32 x) → T (isNan x) ⊎ Sized x 1 → Read x (mul binary64 x f64-1024)
 unfolding isNan

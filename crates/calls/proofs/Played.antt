@@ -36,7 +36,7 @@ pub call-counts : CallCounts
 unfolding step accepted withShape withPath withBus playedState
 call-counts p (settings c) = none-played p _ (accepts p (settings c)) (settings-played p (settingsAt c))
 call-counts p (shape points count loopback) = none-played p _ (accepts p (shape points count loopback)) refl
-call-counts p (path points count closed legs) = none-played p _ (accepts p (path points count closed legs)) refl
+call-counts p (path points count closed) = none-played p _ (accepts p (path points count closed)) refl
 call-counts p (bus k value) = none-played p _ (accepts p (bus k value)) refl
 call-counts p (phase t) = none-played p p (accepts p (phase t)) refl
 call-counts p (block c frames restart x y) =

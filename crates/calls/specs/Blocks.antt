@@ -1,8 +1,7 @@
 -- A block of a player, as `process_scalar` of lfo/bank.rs plays it. Assumes nothing.
 use Prim.Native.Nat.{ℕ, _+_}
 use mathlib.Core.Bool.{Bool, cond}
-use mathlib.Core.List.{List, _++_}
-use lib.ListN.{drop}
+use mathlib.Core.List.{List}
 use lib.Ieee.{Float}
 use Rattle.settings.specs.declared.record.Transport.{Transport}
 use Rattle.clock.specs.declared.ready.Prepared.{Prepared}

@@ -29,7 +29,7 @@ use Rattle.calls.specs.Blocks.{pendingOf, playedState, values}
 pub data Call : Type 0 where
   settings : SettingsCodes → Call
   shape : List PointCodes → ℕ → LoopbackCodes → Call
-  path : List PathPointCodes → ℕ → ℕ → List Float → Call
+  path : List PathPointCodes → ℕ → ℕ → Call
   bus : ℕ → Float → Call
   phase : TransportCodes → Call
   block : TransportCodes → ℕ → RestartCodes → List Float → List Float → Call
@@ -38,7 +38,7 @@ pub data Call : Type 0 where
 unfoldable pub questions : State → Call → List Question
 questions p (settings c) = settingsQuestions c
 questions p (shape points count loopback) = shapeQuestions true points count loopback
-questions p (path points count closed legs) = pathQuestions true points count closed legs
+questions p (path points count closed) = pathQuestions true points count closed
 questions p (bus k value) = busQuestions k value
 questions p (phase t) = phaseQuestions t
 questions p (block t frames restart x y) = blockQuestions (p .played) t frames restart (length x) (length y)
@@ -77,7 +77,7 @@ made c seed = cond (makes c) (bySettings (noPlayer seed) (settingsAt c) (λ s. n
 unfoldable pub accepted : State → Call → State
 accepted p (settings c) = bySettings p (settingsAt c) (withSettings p)
 accepted p (shape points count loopback) = withShape p (givenShape points count loopback)
-accepted p (path points count closed legs) = withPath p (givenPath points count closed legs)
+accepted p (path points count closed) = withPath p (givenPath points count closed)
 accepted p (bus k value) = withBus p k value
 accepted p (phase t) = p
 accepted p (block c frames restart x y) = byTransport p (transportAt c) λ t. playedState p t frames (pendingOf restart)

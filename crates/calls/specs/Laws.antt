@@ -92,7 +92,7 @@ ClockCounts =
 abbrev pub framesOf : State → Call → ℕ
 framesOf p (settings c) = 0
 framesOf p (shape points count loopback) = 0
-framesOf p (path points count closed legs) = 0
+framesOf p (path points count closed) = 0
 framesOf p (bus k value) = 0
 framesOf p (phase t) = 0
 framesOf p (block c frames restart x y) = cond (accepts p (block c frames restart x y)) frames 0

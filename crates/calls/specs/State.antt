@@ -1,5 +1,5 @@
 -- A player as the rules see it, as it is made, and as a call that is accepted leaves it. Assumes nothing.
-use Prim.Native.Nat.{ℕ, suc, _+_}
+use Prim.Native.Nat.{ℕ, suc}
 use mathlib.Core.Bool.{cond}
 use mathlib.Core.List.{List, _∷_, _++_}
 use lib.ListN.{getD, take, drop}
@@ -8,7 +8,6 @@ use Rattle.shape.specs.declared.Shape.{Shape}
 use Rattle.path.specs.declared.Path.{Path}
 use Rattle.settings.specs.declared.record.Settings.{Settings}
 use Rattle.settings.specs.Records.{clampedSettings}
-use Rattle.clock.specs.declared.free.Clock.{Clock}
 use Rattle.voice.specs.declared.Voice.{Voice}
 use Rattle.voice.specs.Voice.{newVoice}
 use Rattle.slot.specs.declared.Lfo.{Lfo}

@@ -2,7 +2,7 @@
 // by `harness/run vectors curves > crates/curve_vectors/stdout`.
 //
 // A curve is a line with its name, a line with its first eight strengths or legs, and a line for each position: the position, the value
-// there, and the value with the points moved by the buses. Legs are those that the Rust source gives; our strengths are handed to it.
+// there, and the value with the points moved by the buses. Our strengths and legs are handed to the Rust source.
 ghost use Prim.Native.Nat.{_≤_};
 use libc::STDOUT_FILENO;
 use path::Path;
@@ -318,9 +318,10 @@ fn show_travel(p: Path)
     }
 }
 
-fn show_path(points: [PathPoint; 64], count: usize, closed: bool, legs: [f32; 64]) {
-    show_eight(legs);
-    show_travel(Path::new(points, count, closed, &legs));
+fn show_path(points: [PathPoint; 64], count: usize, closed: bool) {
+    let p = Path::new(points, count, closed);
+    show_eight(p.legs());
+    show_travel(p);
 }
 
 fn no_path_points() -> [PathPoint; 64] {
@@ -363,52 +364,44 @@ fn default_path() {
 
 fn empty_path() {
     show(b"empty path\n");
-    show_path(no_path_points(), 0, true, [0.0f32; 64]);
+    show_path(no_path_points(), 0, true);
 }
 
 fn one_path_point() {
     show(b"path of one point\n");
     let mut p = no_path_points();
     p[0] = moving_along(bowed(0.25, 0.75, 1.0), 2, 1.0, 3, -1.0);
-    show_path(p, 1, true, [0.0f32; 64]);
+    show_path(p, 1, true);
 }
 
 // Three points with legs of 1, 1/2 and, where it is closed, the way back.
-fn bent_path(closed: bool, back: f32) {
+fn bent_path(closed: bool) {
     let mut p = no_path_points();
     p[0] = bowed(1.0, 1.0, 0.5);
     p[1] = bowed(0.0, 1.0, -1.0);
     p[2] = bowed(0.0, 0.5, 0.25);
-    let mut legs = [0.0f32; 64];
-    legs[0] = 1.0;
-    legs[1] = 0.5;
-    legs[2] = back;
-    show_path(p, 3, closed, legs);
+    show_path(p, 3, closed);
 }
 
 fn open_path() {
     show(b"open path\n");
-    bent_path(false, 0.0);
+    bent_path(false);
 }
 
 fn closed_path() {
     show(b"closed path\n");
-    bent_path(true, 1.118034);
+    bent_path(true);
 }
 
-// Out of range points are clamped and keep their order; the second leg has no length.
+// Out of range points are clamped to the edges of the paper and keep their order; the second leg has no length.
 fn clamped_path() {
     show(b"clamped path\n");
     let mut p = no_path_points();
     p[0] = bowed(2.0, -0.5, 3.0);
-    p[1] = bowed(0.25, 0.4, 0.0);
-    p[2] = bowed(0.25, 0.4, 1.0);
+    p[1] = bowed(0.25, 0.40625, 0.0);
+    p[2] = bowed(0.25, 0.40625, 1.0);
     p[3] = bowed(-0.0, 7.0, -0.3);
-    let mut legs = [0.0f32; 64];
-    legs[0] = 0.85;
-    legs[2] = 0.65000004;
-    legs[3] = 1.4142135;
-    show_path(p, 4, true, legs);
+    show_path(p, 4, true);
 }
 
 // With no length every segment takes as long as the others.
@@ -418,7 +411,7 @@ fn path_of_no_length() {
     p[0] = moving_along(bowed(0.5, 0.5, 0.0), 0, 0.25, 7, 1.0);
     p[1] = moving_along(bowed(0.5, 0.5, 1.0), 8, 1.0, 1, 0.5);
     p[2] = moving_along(bowed(0.5, 0.5, -0.5), 4, -5.0, 4, 1.0);
-    show_path(p, 3, true, [0.0f32; 64]);
+    show_path(p, 3, true);
 }
 
 // The buses move the points and not the times. Two points are reached at 0.75, of which the last starts the segment.
@@ -430,11 +423,42 @@ fn moving_path() {
     p[2] = moving_along(bowed(0.375, 1.0, 0.75), 16, 1.0, 255, -1.0);
     p[3] = moving_along(bowed(0.375, 1.0, -0.25), 4, 2.0, 15, 0.5);
     p[4] = moving_along(bowed(-0.0, 1.0, 0.1), 7, -1.0, 8, 1.0);
-    let mut legs = [0.0f32; 64];
-    legs[0] = 0.625;
-    legs[1] = 0.5;
-    legs[3] = 0.375;
-    show_path(p, 5, false, legs);
+    show_path(p, 5, false);
+}
+
+// Legs of 2,897 and 2,898 squares, whose last digit a float formula gets wrong, of 1 square and of its diagonal, and between far corners.
+fn fine_path() {
+    show(b"fine path\n");
+    let mut p = no_path_points();
+    p[0] = bowed(-0.0, 0.0, 0.0);
+    p[1] = bowed(0.707275390625, 0.70751953125, 0.5);
+    p[2] = bowed(0.70751953125, 0.70751953125, 0.0);
+    p[3] = bowed(0.707763671875, 0.707763671875, -0.25);
+    p[4] = bowed(1.0, 0.999755859375, 0.0);
+    p[5] = bowed(0.000244140625, 1.0, 1.0);
+    p[6] = bowed(0.78369140625, 0.004150390625, -1.0);
+    show_path(p, 7, true);
+}
+
+// 64 points, from right to left, each leg one square higher than the one before.
+fn rising() -> [PathPoint; 64] {
+    let mut p = no_path_points();
+    let mut x = 1.0f32;
+    let mut y = 0.0f32;
+    let mut step = 0.0f32;
+    for i in 0..64usize {
+        p[i] = PathPoint::new(x, y);
+        x = x - 0.015625;
+        step = step + 0.000244140625;
+        y = y + step;
+    }
+    p
+}
+
+// The first 64 of 70 points; the last leg goes from the 64th back to the first.
+fn many_path_points() {
+    show(b"many path points\n");
+    show_path(rising(), 70, true);
 }
 
 fn main() {
@@ -458,4 +482,6 @@ fn main() {
     clamped_path();
     path_of_no_length();
     moving_path();
+    fine_path();
+    many_path_points();
 }

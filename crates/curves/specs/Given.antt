@@ -1,12 +1,11 @@
--- A shape and a path as a call hands them in: `count` points, of which an array holds the first 64, and the legs supplied with a path. Of a code that question 1 refuses
--- nothing is meant: it counts as absent, or as no. Assumes nothing.
+-- A shape and a path as a call hands them in: `count` points, of which an array holds the first 64. Of a code that question 1 refuses nothing is meant: it counts as absent, or
+-- as no. Assumes nothing.
 use Prim.Native.Nat.{ℕ, min}
 use mathlib.Core.Bool.{Bool, cond}
 use mathlib.Core.List.{List}
 use lib.Dec.{eqb}
 use lib.ListN.{getD}
-use lib.Ieee.{Float, nan}
-use Rattle.floatlaws.specs.Numbers.{f32-0}
+use lib.Ieee.{nan}
 use Rattle.listlaws.specs.Tables.{tabulate, padded}
 use Rattle.points.specs.declared.PointMod.{PointMod}
 use Rattle.points.specs.declared.PointMod.the-variants as PointMod
@@ -63,5 +62,5 @@ pathPointOf c = record { x = c .x; y = c .y; bend = c .bend; «x_mod» = modOf (
 unfoldable pub givenPathPoints : List PathPointCodes → ℕ → List PathPoint
 givenPathPoints points n = padded 64 blankPathPoint (tabulate (λ i. pathPointOf (getD points i noPathPointCodes)) n)
 
-unfoldable pub givenPath : List PathPointCodes → ℕ → ℕ → List Float → Path
-givenPath points count closed legs = pathOf (givenPathPoints points (min count 64)) count (isYes closed) (padded 64 f32-0 legs)
+unfoldable pub givenPath : List PathPointCodes → ℕ → ℕ → Path
+givenPath points count closed = pathOf (givenPathPoints points (min count 64)) count (isYes closed)

@@ -1,4 +1,4 @@
-// A shape and a path as a call hands them in: points as codes and numbers, and with a path the lengths of its legs.
+// A shape and a path as a call hands them in: points as codes and numbers.
 use path::Path;
 use path::PathPoint;
 use points::MAX_POINTS;
@@ -8,9 +8,7 @@ use shape::Point;
 use shape::Shape;
 ghost use mathlib.Core.Path.{_≡_};
 ghost use Prim.Native.Nat.{_≤_};
-ghost use lib.ListN.{length, replicate};
-ghost use Rattle.floatlaws.specs.Numbers.{f32-0};
-ghost use Rattle.listlaws.specs.Tables.{padded};
+ghost use lib.ListN.{replicate};
 ghost use Rattle.shape.specs.Points.{blank};
 ghost use Rattle.path.specs.Paths.{blankPath};
 ghost use Rattle.curves.specs.Given.{isYes, modOf, pointOf, givenPoints, loopbackOf, givenShape, pathPointOf, givenPathPoints, givenPath};
@@ -170,31 +168,10 @@ fn given_path_points(points: [PathPointCodes; MAX_POINTS], n: usize) -> [PathPoi
     out
 }
 
-// The legs in an array. Zeros follow.
-fn given_legs(legs: &[f32]) -> [f32; MAX_POINTS]
-    requires { ⌜ length (now legs) ≤ 64 ⌝ }
-    ensures { λ r. ⌜ r ≡ padded 64 f32-0 (now (legs .entry)) ⌝ }
-{
-    let mut out = [0.0f32; MAX_POINTS];
-    let mut i = 0;
-    while i < legs.len() {
-        out[i] = legs[i];
-        i += 1;
-    }
-    out
-}
-
-// A path of `count` points: the first 64 of them, `points` begins with those, and `legs` are the lengths of its segments.
-pub fn path_of(
-    points: [PathPointCodes; MAX_POINTS],
-    count: usize,
-    closed: u64,
-    legs: &[f32],
-) -> Path
-    requires { ⌜ length (now legs) ≤ 64 ⌝ }
-    ensures { λ r. ⌜ (r ≡ givenPath points count closed (now (legs .entry))) × (r .len ≤ 64) ⌝ }
+// A path of `count` points: the first 64 of them, with which `points` begins.
+pub fn path_of(points: [PathPointCodes; MAX_POINTS], count: usize, closed: u64) -> Path
+    ensures { λ r. ⌜ (r ≡ givenPath points count closed) × (r .len ≤ 64) ⌝ }
 {
     let given = given_path_points(points, points::kept(count));
-    let lengths = given_legs(legs);
-    Path::new(given, count, is_yes(closed), &lengths)
+    Path::new(given, count, is_yes(closed))
 }

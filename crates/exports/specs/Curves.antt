@@ -69,16 +69,13 @@ pathPointsOf floats bytes = tabulate (pathPointAt floats bytes) 64
 abbrev pub busesOf : List Float → List Float
 busesOf values = tabulate (λ i. getD values i nan) 16
 
-abbrev pub legsOf : List Float → List Float
-legsOf values = tabulate (λ i. getD values i nan) 64
-
 -- ---- curves
 
 abbrev pub shapeFrom : List Float → List ℕ → ℕ → Shape
 shapeFrom floats bytes count = newShape (pointsOf floats bytes) count
 
-abbrev pub pathFrom : List Float → List ℕ → ℕ → Bool → List Float → Path
-pathFrom floats bytes count closed legs = pathOf (pathPointsOf floats bytes) count closed (legsOf legs)
+abbrev pub pathFrom : List Float → List ℕ → ℕ → Bool → Path
+pathFrom floats bytes count closed = pathOf (pathPointsOf floats bytes) count closed
 
 -- where the points are, moved by the buses
 abbrev pub shapeMoved : Shape → List Float → Coordinates

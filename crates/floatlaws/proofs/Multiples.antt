@@ -1,33 +1,39 @@
--- What `isMultiple` says; and of a float that is n / d in size: its whole part, whether it is that, and as an integer. Assumes nothing.
+-- What `isMultiple` says; of a float that is n / d in size: its whole part, whether it is that, and as an integer; and how a program tells the multiples of 1 / 2 ^ k: by 2 ^ k times the float. Assumes nothing.
 use mathlib.Core.Path.{_≡_, refl, sym, ap, _∙_, subst}
 use mathlib.Core.Bool.{Bool, true, false, _&&_, _||_, Bool·beq, cond}
 use Prim.Native.Nat.{ℕ, _+_, _-_, _*_, _/_, _%_, _^_, _≤_, _<_, min}
-use native.Mathlib.Nat.{add-zero, mul-mod-left, div-add-mod'}
+use native.Mathlib.Nat.{le-of-eq, lt-of-lt-of-le, lt-of-le-of-lt, add-zero, one-mul, mul-one, mul-assoc, mul-right-comm, mul-mod-left, div-add-mod'}
 use native.Mathlib.Omega.{arith}
-use lib.Dec.{T, eqb, eqb→eq}
-use lib.Ieee.{Float, nan, inf, fin, Format, up, down, level, eq, fits, toUnsigned}
-use lib.Ieee.Fits.{and-l, and-i, eq→eqb, down-pos}
-use lib.Ieee.Exact.{HasValue}
+use lib.IntN.{ℤ, pos}
+use lib.Dec.{T, eqb, eqb→eq, lit≤}
+use lib.Pow.{pow-add, pow-mono, shl-lt}
+use lib.Ieee.{Float, nan, inf, fin, Format, binary32, binary64, up, down, round, mul, level, eq, fits, toUnsigned}
+use lib.Ieee.Fits.{and-l, and-i, eq→eqb, down-pos, mul-fits}
+use lib.Ieee.Exact.{HasValue, round-exact}
 use lib.Ieee.Nearest.{div-same}
+use Rattle.floatlaws.specs.Extrema.{signed}
 use Rattle.floatlaws.specs.Whole.{wholeOf, toZero}
-use Rattle.floatlaws.specs.Multiples.{isMultiple, MultipleRule}
+use Rattle.floatlaws.specs.Multiples.{isMultiple, multiplesIn, MultipleRule}
 use Rattle.floatlaws.proofs.Tests.{iff-same, or-l}
-use Rattle.floatlaws.proofs.Values.{eq-by-value}
+use Rattle.floatlaws.proofs.Unique.{fits-held, held-units}
+use Rattle.floatlaws.proofs.Values.{eq-by-value, unlike-plus}
 use Rattle.floatlaws.proofs.Whole.{whole-value}
 
-pub multiple-rule : MultipleRule
-unfolding isMultiple
-multiple-rule n nan = (λ h. absurd h, λ h. absurd (h .2))
-multiple-rule n (inf t) = (λ h. absurd h, λ h. absurd (h .2))
-multiple-rule n (fin t m e) = (there, back)
-  where
-    there : T (eqb (m * up e * n % down e) 0) → (s : Bool) × (k : ℕ) × HasValue (fin t m e) s k n
-    there h =
-        let x = m * up e * n in
-        (t, x / down e, (refl, sym (div-add-mod' x (down e)) ∙ rw (eqb→eq (x % down e) 0 h) (add-zero (x / down e * down e))))
+pub multiple-exact : (n : ℕ) (x : Float) → T (isMultiple n x) → HasValue x (signed x) (multiplesIn n x) n
+unfolding isMultiple multiplesIn
+multiple-exact n nan h = absurd h
+multiple-exact n (inf t) h = absurd h
+multiple-exact n (fin t m e) h =
+    let x = m * up e * n in
+    (refl, sym (div-add-mod' x (down e)) ∙ rw (eqb→eq (x % down e) 0 h) (add-zero (x / down e * down e)))
 
-    back : (s : Bool) × (k : ℕ) × HasValue (fin t m e) s k n → T (eqb (m * up e * n % down e) 0)
-    back h = rw (h .2 .1) (eq→eqb (mul-mod-left (h .1) (down e)))
+pub multiple-rule : MultipleRule
+multiple-rule n nan = (λ h. absurd (unfold isMultiple in h), λ h. absurd (h .2))
+multiple-rule n (inf t) = (λ h. absurd (unfold isMultiple in h), λ h. absurd (h .2))
+multiple-rule n (fin t m e) = (λ h. (t, multiplesIn n (fin t m e), multiple-exact n (fin t m e) h), back)
+  where
+    back : (s : Bool) × (k : ℕ) × HasValue (fin t m e) s k n → T (isMultiple n (fin t m e))
+    back h = unfold isMultiple in (rw (h .2 .1) (eq→eqb (mul-mod-left (h .1) (down e))))
 
 -- ---- a float y that is n / d in size
 
@@ -70,3 +76,40 @@ unsigned-value w (fin u m e) s n d D v h =
   where
     small : (q l : ℕ) → q ≤ l → min q l ≡ q
     small q l h = omega arith
+
+-- ---- an `f32` times c, which is 2 ^ k: exact in an `f64`
+
+module _ (k : ℕ) (few : k ≤ 64) (c : Float) (is : c ≡ fin false 1 (pos k)) where
+  product-is : (s : Bool) (m : ℕ) (e : ℤ) → mul binary64 (fin s m e) c ≡ round binary64 s (m * up e * 2 ^ k) (down e)
+  product-is s m e =
+      ap (mul binary64 (fin s m e)) is
+      ∙ unfold mul in
+      (ap (λ (u : Bool). round binary64 u (m * up e * (1 * 2 ^ k)) (down e * 1)) (unlike-plus s)
+      ∙ ap (λ (n : ℕ). round binary64 s (m * up e * n) (down e * 1)) (one-mul (2 ^ k))
+      ∙ ap (round binary64 s (m * up e * 2 ^ k)) (mul-one (down e)))
+
+  pub scaled-value : (s : Bool) (m : ℕ) (e : ℤ) → T (fits binary32 (fin s m e)) → HasValue (mul binary64 (fin s m e) c) s (m * up e * 2 ^ k) (down e)
+  scaled-value s m e t =
+      let h = fits-held binary32 s m e t in
+      let u = held-units binary32 m e h in
+      let j = u .0 in
+      let n = m * up e in
+      let g = k + 925 in
+      let split : m * 2 ^ (j + g) ≡ m * 2 ^ j * 2 ^ g = ap (λ (z : ℕ). m * z) (pow-add 2 j g) ∙ sym (mul-assoc m (2 ^ j) (2 ^ g)) in
+      subst (λ (y : Float). HasValue y s (n * 2 ^ k) (down e)) (sym (product-is s m e))
+      (round-exact binary64 s (n * 2 ^ k) (down e) m (j + g) (down-pos e) (lt-of-lt-of-le (h .0) (lit≤ tt))
+      (lt-of-le-of-lt (le-of-eq split) (lt-of-lt-of-le (shl-lt 277 g (u .3)) (pow-mono {i = 277 + g} {j = 2098} (omega arith))))
+      (mul-assoc n (2 ^ k) (2 ^ 1074)
+      ∙ ap (λ (z : ℕ). n * z) (sym (pow-add 2 k 1074) ∙ ap (λ (z : ℕ). 2 ^ z) (sum k) ∙ pow-add 2 149 g)
+      ∙ sym (mul-assoc n (2 ^ 149) (2 ^ g))
+      ∙ ap (λ (z : ℕ). z * 2 ^ g) (u .2)
+      ∙ mul-right-comm (m * 2 ^ j) (down e) (2 ^ g)
+      ∙ ap (λ (z : ℕ). z * down e) (sym split)))
+    where
+      sum : (k : ℕ) → k + 1074 ≡ 149 + (k + 925)
+      sum k = omega arith
+
+  -- "is a multiple of 1 / 2 ^ k", as a program tests it
+  pub multiple-tested : (s : Bool) (m : ℕ) (e : ℤ) → T (fits binary32 (fin s m e)) → let y = mul binary64 (fin s m e) c in eq (wholeOf binary64 toZero y) y ≡ isMultiple (2 ^ k) (fin s m e)
+  unfolding isMultiple
+  multiple-tested s m e t = is-whole binary64 (mul binary64 (fin s m e) c) s (m * up e * 2 ^ k) (down e) (down-pos e) (scaled-value s m e t) (mul-fits binary64 (fin s m e) c)

@@ -10,7 +10,7 @@ use Rattle.calls.specs.State.{State}
 use Rattle.runs.specs.Parser.{Parsed, read, malformed}
 use Rattle.runs.proofs.Ahead.{Ahead, Steady, steady-ahead, steady-done, ahead-then, ahead-number, ahead-below, ahead-f32}
 use Rattle.runs.proofs.Ahead.{ahead-settings, ahead-transport, ahead-restart, ahead-shape, ahead-path}
-use Rattle.oracle.specs.Asked.{Asked, none, settingsCall, shapeCall, pathCall, busCall, phaseCall, blockCall, shapeAtCall, pathAtCall, byTag, asked}
+use Rattle.oracle.specs.Asked.{Asked, none, settingsCall, shapeCall, pathCall, busCall, phaseCall, blockCall, shapeAtCall, pathAtCall, legsCall, byTag, asked}
 use Rattle.oracle.specs.Numbers.{numbers, stateAfter}
 use Rattle.oracle.specs.Output.{given, givenBy}
 use Rattle.oracle.proofs.Fitting.{given-past}
@@ -19,7 +19,7 @@ steady-none : Steady none
 steady-none = record { steady = λ run at a next e. let z : _≡_ {A = ℕ} 0 1 = cc e in absurd (omega arith) }
 
 steady-tag : (tag : ℕ) → Steady (getD byTag tag none)
-unfolding byTag settingsCall shapeCall pathCall busCall phaseCall blockCall shapeAtCall pathAtCall
+unfolding byTag settingsCall shapeCall pathCall busCall phaseCall blockCall shapeAtCall pathAtCall legsCall
 steady-tag zero = steady-ahead (ahead-then _ _ ahead-settings (λ c. steady-done _))
 steady-tag (suc zero) = steady-ahead (ahead-then _ _ ahead-shape (λ s. steady-done _))
 steady-tag (suc (suc zero)) = steady-ahead (ahead-then _ _ ahead-path (λ s. steady-done _))
@@ -38,7 +38,8 @@ steady-tag (suc (suc (suc (suc (suc (suc zero)))))) =
     steady-ahead (ahead-then _ _ ahead-shape (λ s. steady-ahead (ahead-then _ _ ahead-f32 (λ x. steady-done _))))
 steady-tag (suc (suc (suc (suc (suc (suc (suc zero))))))) =
     steady-ahead (ahead-then _ _ ahead-path (λ s. steady-ahead (ahead-then _ _ ahead-f32 (λ t. steady-done _))))
-steady-tag (suc (suc (suc (suc (suc (suc (suc (suc n)))))))) = steady-none
+steady-tag (suc (suc (suc (suc (suc (suc (suc (suc zero)))))))) = steady-ahead (ahead-then _ _ ahead-path (λ s. steady-done _))
+steady-tag (suc (suc (suc (suc (suc (suc (suc (suc (suc n))))))))) = steady-none
 
 pub ahead-asked : Ahead asked
 unfolding asked

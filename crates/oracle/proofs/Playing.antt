@@ -1,6 +1,6 @@
 -- A block, played and written. Assumes nothing.
 use Prim.Native.Nat.{ℕ, zero, suc, _≤_}
-use mathlib.Core.Path.{_≡_, refl, sym, ap, _∙_}
+use mathlib.Core.Path.{_≡_, refl, ap}
 use mathlib.Core.Bool.{Bool, true, false, cond}
 use mathlib.Core.List.{List, [], _∷_}
 use native.Mathlib.Omega.{arith}
@@ -17,8 +17,8 @@ use Rattle.runs.specs.Parser.{read}
 use Rattle.replies.specs.Replies.{listed, Gives}
 use Rattle.player.specs.declared.Player.{Player}
 use Rattle.player.specs.declared.Played.{Played}
-use Rattle.player.specs.Player.{stateOf, Valid}
-use Rattle.player.specs.Promises.{finishedBy, Plays}
+use Rattle.player.specs.Player.{stateOf}
+use Rattle.player.specs.Promises.{Plays}
 use Rattle.oracle.specs.Asked.{call, sevens}
 use Rattle.oracle.specs.Numbers.{flagOf, blockNumbers, callNumbers, numbers, stateAfter}
 use Rattle.oracle.specs.Output.{givenBy}
@@ -41,13 +41,6 @@ module _ (m : ℕ) {l : List Float} (e : l ≡ sevens m) where
   sevens-first n h = rw e (take-replicate _ n m h)
 
 -- ---- the numbers
-
-pub how-many-small : (n : ℕ) → howMany n ≤ 2
-how-many-small n = by-test (eqb n 0)
-  where
-    by-test : (t : Bool) → cond t 2 1 ≤ 2
-    by-test true = omega arith
-    by-test false = omega arith
 
 by-answer : (t : Bool) (a f : ℕ) → a ∷ cond t (f ∷ []) [] ≡ take (cond t 2 1) (a ∷ f ∷ [])
 by-answer true a f = refl

@@ -11,13 +11,14 @@ use Rattle.questions.specs.declared.RestartCodes.{RestartCodes}
 use Rattle.calls.specs.Calls as Calls
 use Rattle.runs.specs.declared.fields.Place.{Place}
 use Rattle.runs.specs.declared.shapes.ShapeCodes.{ShapeCodes}
+use Rattle.runs.specs.declared.paths.PathCodes.{PathCodes}
 use Rattle.runs.specs.Parser.{Parsed, read, malformed, after, onward, Reads}
 use Rattle.runs.specs.Fields.{number, upTo, f32}
 use Rattle.runs.specs.Records.{settings, transport, restart}
-use Rattle.runs.specs.Curves.{PathCodes, shape, path}
+use Rattle.runs.specs.Curves.{shape, path}
 use Rattle.runs.proofs.Laws.{chain, last}
-use Rattle.oracle.specs.Asked.{Asked, call, shapeAt, pathAt, sevens, none, byTag, asked}
-use Rattle.oracle.specs.Asked.{settingsCall, shapeCall, pathCall, busCall, phaseCall, blockCall, shapeAtCall, pathAtCall}
+use Rattle.oracle.specs.Asked.{Asked, call, shapeAt, pathAt, legs, sevens, none, byTag, asked}
+use Rattle.oracle.specs.Asked.{settingsCall, shapeCall, pathCall, busCall, phaseCall, blockCall, shapeAtCall, pathAtCall, legsCall}
 use Rattle.oracle.specs.Output.{make}
 
 module _ (run : List ℕ) {from a : Place} where
@@ -33,9 +34,13 @@ module _ (run : List ℕ) {from a : Place} where
   unfolding shapeCall
   shape-call r = chain _ r last
 
-  pub path-call : {s : PathCodes} → Reads (path run) from s a → Reads (pathCall run) from (call (Calls.path (s .points) (s .count) (s .closed) (s .legs))) a
+  pub path-call : {s : PathCodes} → Reads (path run) from s a → Reads (pathCall run) from (call (Calls.path (s .points) (s .count) (s .closed))) a
   unfolding pathCall
   path-call r = chain _ r last
+
+  pub legs-call : {s : PathCodes} → Reads (path run) from s a → Reads (legsCall run) from (legs (s .points) (s .count) (s .closed)) a
+  unfolding legsCall
+  legs-call r = chain _ r last
 
 module _ (run : List ℕ) {from a b : Place} where
   pub bus-call : {k : ℕ} {x : Float} → Reads (number run) from k a → Reads (f32 run) a x b → Reads (busCall run) from (call (Calls.bus k x)) b
@@ -48,7 +53,7 @@ module _ (run : List ℕ) {from a b : Place} where
   shape-at-call r s = chain _ r (chain _ s last)
 
   pub path-at-call : {s : PathCodes} {t : Float} → Reads (path run) from s a → Reads (f32 run) a t b
-      → Reads (pathAtCall run) from (pathAt (s .points) (s .count) (s .closed) (s .legs) t) b
+      → Reads (pathAtCall run) from (pathAt (s .points) (s .count) (s .closed) t) b
   unfolding pathAtCall
   path-at-call r s = chain _ r (chain _ s last)
 
@@ -63,18 +68,19 @@ unfolding blockCall
 block-call run r₁ r₂ r₃ r₄ r₅ = chain _ r₁ (chain _ r₂ (chain _ r₃ (chain _ r₄ (chain _ r₅ last))))
 
 -- a tag of no call
-pub other-tag : (tag : ℕ) → (tag ≡ 0 → ⊥) → (tag ≡ 1 → ⊥) → (tag ≡ 2 → ⊥) → (tag ≡ 3 → ⊥) → (tag ≡ 4 → ⊥) → (tag ≡ 5 → ⊥) → (tag ≡ 6 → ⊥) → (tag ≡ 7 → ⊥)
+pub other-tag : (tag : ℕ) → (tag ≡ 0 → ⊥) → (tag ≡ 1 → ⊥) → (tag ≡ 2 → ⊥) → (tag ≡ 3 → ⊥) → (tag ≡ 4 → ⊥) → (tag ≡ 5 → ⊥) → (tag ≡ 6 → ⊥) → (tag ≡ 7 → ⊥) → (tag ≡ 8 → ⊥)
     → getD byTag tag none ≡ none
 unfolding byTag
-other-tag zero n₀ n₁ n₂ n₃ n₄ n₅ n₆ n₇ = absurd (n₀ refl)
-other-tag (suc zero) n₀ n₁ n₂ n₃ n₄ n₅ n₆ n₇ = absurd (n₁ refl)
-other-tag (suc (suc zero)) n₀ n₁ n₂ n₃ n₄ n₅ n₆ n₇ = absurd (n₂ refl)
-other-tag (suc (suc (suc zero))) n₀ n₁ n₂ n₃ n₄ n₅ n₆ n₇ = absurd (n₃ refl)
-other-tag (suc (suc (suc (suc zero)))) n₀ n₁ n₂ n₃ n₄ n₅ n₆ n₇ = absurd (n₄ refl)
-other-tag (suc (suc (suc (suc (suc zero))))) n₀ n₁ n₂ n₃ n₄ n₅ n₆ n₇ = absurd (n₅ refl)
-other-tag (suc (suc (suc (suc (suc (suc zero)))))) n₀ n₁ n₂ n₃ n₄ n₅ n₆ n₇ = absurd (n₆ refl)
-other-tag (suc (suc (suc (suc (suc (suc (suc zero))))))) n₀ n₁ n₂ n₃ n₄ n₅ n₆ n₇ = absurd (n₇ refl)
-other-tag (suc (suc (suc (suc (suc (suc (suc (suc n)))))))) n₀ n₁ n₂ n₃ n₄ n₅ n₆ n₇ = refl
+other-tag zero n₀ n₁ n₂ n₃ n₄ n₅ n₆ n₇ n₈ = absurd (n₀ refl)
+other-tag (suc zero) n₀ n₁ n₂ n₃ n₄ n₅ n₆ n₇ n₈ = absurd (n₁ refl)
+other-tag (suc (suc zero)) n₀ n₁ n₂ n₃ n₄ n₅ n₆ n₇ n₈ = absurd (n₂ refl)
+other-tag (suc (suc (suc zero))) n₀ n₁ n₂ n₃ n₄ n₅ n₆ n₇ n₈ = absurd (n₃ refl)
+other-tag (suc (suc (suc (suc zero)))) n₀ n₁ n₂ n₃ n₄ n₅ n₆ n₇ n₈ = absurd (n₄ refl)
+other-tag (suc (suc (suc (suc (suc zero))))) n₀ n₁ n₂ n₃ n₄ n₅ n₆ n₇ n₈ = absurd (n₅ refl)
+other-tag (suc (suc (suc (suc (suc (suc zero)))))) n₀ n₁ n₂ n₃ n₄ n₅ n₆ n₇ n₈ = absurd (n₆ refl)
+other-tag (suc (suc (suc (suc (suc (suc (suc zero))))))) n₀ n₁ n₂ n₃ n₄ n₅ n₆ n₇ n₈ = absurd (n₇ refl)
+other-tag (suc (suc (suc (suc (suc (suc (suc (suc zero)))))))) n₀ n₁ n₂ n₃ n₄ n₅ n₆ n₇ n₈ = absurd (n₈ refl)
+other-tag (suc (suc (suc (suc (suc (suc (suc (suc (suc n))))))))) n₀ n₁ n₂ n₃ n₄ n₅ n₆ n₇ n₈ = refl
 
 -- a tag, and then its call
 pub tag-then : (run : List ℕ) (at : ℕ) {tag : ℕ} {from : Place} → Reads (number run) (record { at = at; good = true }) tag from

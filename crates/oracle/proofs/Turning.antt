@@ -5,7 +5,8 @@ use mathlib.Core.Bool.{Bool, true, false, cond}
 use mathlib.Core.List.{List, [], _∷_, _++_, append-nil}
 use native.Mathlib.Omega.{arith}
 use borrow.Author.Tests.{leb-true, lt-ltb}
-use lib.ListN.{length, take, length-append}
+use lib.Dec.{eqb}
+use lib.ListN.{length, length-append}
 use Rattle.listlaws.specs.Over.{over}
 use Rattle.listlaws.proofs.Over.{over-none, length-over, over-over}
 use Rattle.number.specs.declared.Writing.{Writing}
@@ -18,11 +19,18 @@ use Rattle.replies.specs.Replies.{bytesOf, fits, fitting, Gives}
 use Rattle.oracle.specs.declared.Reply.{Reply}
 use Rattle.oracle.specs.declared.Turn.{Turn}
 use Rattle.oracle.specs.Asked.{Asked, asked}
-use Rattle.oracle.specs.Output.{given, givenBy, make, givenFrom, output, Runs}
-use Rattle.oracle.specs.Promises.{givenOf, replied, turnOf, Begins, Turns, Finishes}
+use Rattle.oracle.specs.Output.{given, output, Runs}
+use Rattle.oracle.specs.Promises.{givenOf, howMany, replied, turnOf, Begins, Turns, Finishes}
 use Rattle.oracle.proofs.Fitting.{fitting-room, fitting-if, given-past}
 
 -- ---- one turn
+
+pub how-many-small : (n : ℕ) → howMany n ≤ 2
+how-many-small n = by-test (eqb n 0)
+  where
+    by-test : (t : Bool) → cond t 2 1 ≤ 2
+    by-test true = omega arith
+    by-test false = omega arith
 
 -- what is to be written may be said in other words
 pub same-turns : {run : List ℕ} {all all′ : ℕ → List (List ℕ)} {x : List ℕ} {place : ℕ} {r : Turn} {y : List ℕ} → ((most : ℕ) → all most ≡ all′ most)

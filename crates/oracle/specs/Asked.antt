@@ -15,11 +15,12 @@ use Rattle.runs.specs.Fields.{number, upTo, f32}
 use Rattle.runs.specs.Records.{settings, transport, restart}
 use Rattle.runs.specs.Curves.{shape, path}
 
--- a call on the player, or one that evaluates a shape or a path
+-- a call on the player, or one that evaluates a shape, a path or the legs of a path
 pub data Asked : Type 0 where
   call : Call → Asked
   shapeAt : List PointCodes → ℕ → LoopbackCodes → Float → Asked
-  pathAt : List PathPointCodes → ℕ → ℕ → List Float → Float → Asked
+  pathAt : List PathPointCodes → ℕ → ℕ → Float → Asked
+  legs : List PathPointCodes → ℕ → ℕ → Asked
 
 -- "before each block every element of both is 7.0 (bits 40e00000)"
 abbrev pub seven : Float
@@ -38,7 +39,7 @@ shapeCall = shape then λ s. done (call (Calls.shape (s .points) (s .count) (s .
 
 -- tag 2
 unfoldable pub pathCall : Parser Asked
-pathCall = path then λ s. done (call (Calls.path (s .points) (s .count) (s .closed) (s .legs)))
+pathCall = path then λ s. done (call (Calls.path (s .points) (s .count) (s .closed)))
 
 -- tag 3
 unfoldable pub busCall : Parser Asked
@@ -67,7 +68,11 @@ shapeAtCall = shape then λ s. f32 then λ x. done (shapeAt (s .points) (s .coun
 
 -- tag 7
 unfoldable pub pathAtCall : Parser Asked
-pathAtCall = path then λ s. f32 then λ t. done (pathAt (s .points) (s .count) (s .closed) (s .legs) t)
+pathAtCall = path then λ s. f32 then λ t. done (pathAt (s .points) (s .count) (s .closed) t)
+
+-- tag 8
+unfoldable pub legsCall : Parser Asked
+legsCall = path then λ s. done (legs (s .points) (s .count) (s .closed))
 
 -- a tag of no call
 abbrev pub none : Parser Asked
@@ -75,7 +80,7 @@ none run at = malformed
 
 -- each at its tag
 unfoldable pub byTag : List (Parser Asked)
-byTag = settingsCall ∷ shapeCall ∷ pathCall ∷ busCall ∷ phaseCall ∷ blockCall ∷ shapeAtCall ∷ pathAtCall ∷ []
+byTag = settingsCall ∷ shapeCall ∷ pathCall ∷ busCall ∷ phaseCall ∷ blockCall ∷ shapeAtCall ∷ pathAtCall ∷ legsCall ∷ []
 
 unfoldable pub asked : Parser Asked
 asked = number then λ tag. getD byTag tag none

@@ -1,7 +1,7 @@
 -- What the parts of the code promise. Assumes nothing.
 use Prim.Native.Nat.{ℕ, _+_, _≤_}
 use mathlib.Core.Path.{_≡_}
-use mathlib.Core.Bool.{true, false, cond}
+use mathlib.Core.Bool.{false, cond}
 use mathlib.Core.List.{List, [], _∷_, _++_}
 use lib.Dec.{eqb}
 use lib.ListN.{length, take}
@@ -25,7 +25,7 @@ use Rattle.oracle.specs.Output.{given, givenBy, make, givenFrom}
 abbrev pub givenOf : Player → List ℕ → Parsed Asked → ℕ → List (List ℕ)
 givenOf p run a most = givenBy (stateOf p) (λ q. given most q run) a
 
--- how many numbers a block gives before its buffers, by its answer
+-- how many numbers a call gives before its lists of floats, by its answer
 abbrev pub howMany : ℕ → ℕ
 howMany n = cond (eqb n 0) 2 1
 

@@ -1,5 +1,6 @@
 // Tag 5: playing a block.
 use super::Turn;
+use super::writing::how_many;
 use super::writing::malformed;
 use super::writing::turn_of;
 use super::writing::write_reply;
@@ -14,7 +15,7 @@ ghost use lib.ListN.{length};
 ghost use Rattle.player.specs.Player.{Valid};
 ghost use Rattle.oracle.specs.Asked.{sevens, blockOf, blockCall};
 ghost use Rattle.oracle.specs.Numbers.{flagOf};
-ghost use Rattle.oracle.specs.Promises.{howMany, TurnsOn, TurnsBy};
+ghost use Rattle.oracle.specs.Promises.{TurnsOn, TurnsBy};
 
 // The most elements of a buffer.
 const MOST: usize = 8192;
@@ -27,13 +28,6 @@ fn flag(b: bool) -> u64
     ensures { λ r. ⌜ r ≡ flagOf b ⌝ }
 {
     if b { 1 } else { 0 }
-}
-
-// How many numbers come before those of the buffers: the answer, and where it is 0 `finished`.
-fn how_many(answer: u8) -> usize
-    ensures { λ r. ⌜ r ≡ howMany answer ⌝ }
-{
-    if answer == 0 { 2 } else { 1 }
 }
 
 // A buffer as it is before a block.

@@ -2,7 +2,6 @@
 use super::Reply;
 use super::writing::edited;
 use super::writing::malformed;
-use super::writing::zeros;
 use player::Player;
 use runs::Place;
 ghost use Rattle.player.specs.Player.{Valid};
@@ -44,16 +43,12 @@ pub fn path_reply(run: &[u8], from: Place, p: Player) -> Reply
     requires { ⌜ Valid p ⌝ }
     ensures { λ r. ⌜ RepliesTo pathCall (now (run .entry)) from p r ⌝ }
 {
-    let mut buffer = zeros();
-    let s = runs::read_path(run, from, &mut buffer);
+    let s = runs::read_path(run, from);
     let next = s.next;
     if next.good {
-        let points = s.points;
-        let len = s.len;
-        return edited(
-            player::set_path(p, points, s.count, s.closed, &buffer[..len]),
-            next,
-        );
+        let codes = s.value;
+        let points = codes.points;
+        return edited(player::set_path(p, points, codes.count, codes.closed), next);
     }
     malformed(p)
 }

@@ -1,6 +1,7 @@
 // The exported function: a run's bytes in, and what its calls give out (docs/RUN.md). `output` of specs/Output.antt says what it writes.
 mod block;
 mod edits;
+mod legs;
 mod turns;
 mod values;
 mod writing;
@@ -9,8 +10,8 @@ use player::Player;
 use runs::Place;
 ghost use Rattle.oracle.specs.Output.{Runs};
 
-// What a call other than a block gives: the first `count` of the numbers, the player after it, and the place after it. Where the run ends
-// with this call, that place is not good.
+// What a call that gives no list of floats gives: the first `count` of the numbers, the player after it, and the place after it. Where
+// the run ends with this call, that place is not good.
 pub struct Reply {
     pub numbers: [u64; 3],
     pub count: usize,

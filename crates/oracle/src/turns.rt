@@ -6,6 +6,7 @@ use super::edits::bus_reply;
 use super::edits::path_reply;
 use super::edits::settings_reply;
 use super::edits::shape_reply;
+use super::legs::legs_turn;
 use super::values::path_at_reply;
 use super::values::phase_reply;
 use super::values::shape_at_reply;
@@ -43,9 +44,9 @@ pub fn made(run: &[u8]) -> Reply
     malformed(p)
 }
 
-// A call other than a block, by its tag.
+// A call that gives no list of floats, by its tag.
 fn reply_of(run: &[u8], tag: u64, from: Place, p: Player) -> Reply
-    requires { ⌜ Valid p × (tag ≡ 5 → ⊥) ⌝ }
+    requires { ⌜ Valid p × (tag ≡ 5 → ⊥) × (tag ≡ 8 → ⊥) ⌝ }
     ensures { λ r. ⌜ RepliesTo (getD byTag tag none) (now (run .entry)) from p r ⌝ }
 {
     match tag {
@@ -70,6 +71,9 @@ fn call(run: &[u8], at: usize, out: &mut [u8], place: usize, p: Player) -> Turn
     let from = tag.next;
     if tag.value == 5 {
         return block_turn(run, from, p, out, place);
+    }
+    if tag.value == 8 {
+        return legs_turn(run, from, p, out, place);
     }
     write_reply(out, place, reply_of(run, tag.value, from, p))
 }

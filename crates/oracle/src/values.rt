@@ -1,7 +1,6 @@
 // The calls that leave the player as it is: the phase, tag 4, and evaluating a shape and a path, tags 6 and 7.
 use super::Reply;
 use super::writing::malformed;
-use super::writing::zeros;
 use evaluate::Value;
 use player::Player;
 use player::Reading;
@@ -118,14 +117,13 @@ pub fn path_at_reply(run: &[u8], from: Place, p: Player) -> Reply
     requires { ⌜ Valid p ⌝ }
     ensures { λ r. ⌜ RepliesTo pathAtCall (now (run .entry)) from p r ⌝ }
 {
-    let mut buffer = zeros();
-    let s = runs::read_path(run, from, &mut buffer);
+    let s = runs::read_path(run, from);
     let t = runs::read_f32(run, s.next);
     let next = t.next;
     if next.good {
-        let points = s.points;
-        let len = s.len;
-        let v = evaluate::evaluate_path(points, s.count, s.closed, &buffer[..len], t.value);
+        let codes = s.value;
+        let points = codes.points;
+        let v = evaluate::evaluate_path(points, codes.count, codes.closed, t.value);
         return unchanged(place_says(v), next, p);
     }
     malformed(p)

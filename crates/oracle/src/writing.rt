@@ -7,19 +7,18 @@ use player::Player;
 use runs::Place;
 ghost use mathlib.Core.Path.{_≡_};
 ghost use Prim.Native.Nat.{_≤_};
-ghost use lib.ListN.{length, replicate};
-ghost use Rattle.floatlaws.specs.Numbers.{f32-0};
-ghost use Rattle.oracle.specs.Promises.{replyOf, nowhere, replied, turnOf, Turns};
+ghost use lib.ListN.{length};
+ghost use Rattle.oracle.specs.Promises.{howMany, replyOf, nowhere, replied, turnOf, Turns};
 ghost use Rattle.player.specs.Player.{Valid};
 
 // The place of a run that ends.
 pub const NOWHERE: Place = Place { at: 0, good: false };
 
-// Room for the legs of a path.
-pub fn zeros() -> [f32; 4096]
-    ensures { λ r. ⌜ r ≡ replicate 4096 f32-0 ⌝ }
+// How many numbers come before lists of floats: the answer, and where it is 0 one more.
+pub fn how_many(answer: u8) -> usize
+    ensures { λ r. ⌜ r ≡ howMany answer ⌝ }
 {
-    [0.0f32; 4096]
+    if answer == 0 { 2 } else { 1 }
 }
 
 // One number.

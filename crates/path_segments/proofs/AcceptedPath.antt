@@ -13,13 +13,13 @@ use Rattle.floatlaws.specs.Numbers.{f32-0}
 use Rattle.floatlaws.proofs.NoNan.{Number}
 use Rattle.points.specs.Arrays.{Ascends}
 use Rattle.listlaws.proofs.Tabulation.{getD-padded}
-use Rattle.path_segments.specs.Times.{segmentsOf, timeAt, timesOf, Legs}
+use Rattle.path_segments.specs.Times.{segmentsOf, timeAt, timesOf, LegsIn}
 use Rattle.path_segments.specs.Segments.{pathContains, pathSegment, rustPathSegment}
 use Rattle.path_segments.proofs.Ascent.{times-start, times-ascend}
 use Rattle.path_segments.proofs.KeptPath.{kept-path, found-holds}
 use Rattle.path_segments.proofs.RustPath.{rust-path}
 
-segments-le : (len : ℕ) (closed : Bool) → segmentsOf len closed ≤ len
+pub segments-le : (len : ℕ) (closed : Bool) → segmentsOf len closed ≤ len
 unfolding segmentsOf
 segments-le len closed = go (ltb len 2) closed
   where
@@ -28,7 +28,7 @@ segments-le len closed = go (ltb len 2) closed
     go false true = le-refl len
     go false false = omega arith
 
-module _ (len : ℕ) (closed : Bool) (kept : len ≤ 64) (legs : List Float) (accepted : Legs legs (segmentsOf len closed)) where
+module _ (len : ℕ) (closed : Bool) (kept : len ≤ 64) (legs : List Float) (accepted : LegsIn legs (segmentsOf len closed)) where
   abbrev n : ℕ
   n = segmentsOf len closed
 

@@ -22,7 +22,7 @@ use Rattle.floatlaws.proofs.Sums.{AtMost, Term, Positive, below-cross, round-at
 use Rattle.points.specs.Arrays.{Ascends}
 use Rattle.listlaws.proofs.Tabulation.{getD-padded}
 use Rattle.points.proofs.Floats.{zero-one}
-use Rattle.path_segments.specs.Times.{sumTo, shareOf, timeAt, timesOf, Legs}
+use Rattle.path_segments.specs.Times.{sumTo, shareOf, timeAt, timesOf, LegsIn}
 
 -- ---- a leg
 
@@ -46,7 +46,7 @@ module _ (legs : List Float) where
   sum-fits zero = unfold fits ofBits in tt
   sum-fits (suc j) = add-fits binary32 (sumTo legs j) (getD legs j nan)
 
-  module _ (n : ℕ) (ok : Legs legs n) (room : n ≤ 64) where
+  module _ (n : ℕ) (ok : LegsIn legs n) (room : n ≤ 64) where
     sum-bound : (j : ℕ) → j ≤ n → AtMost (2 * j) (sumTo legs j)
     unfolding sumTo
     sum-bound zero h = unfold ofBits in le-refl 0
@@ -107,7 +107,7 @@ counts n some room =
       whole = positive-value (round binary32 false n 1) n some (round-whole binary32 false n (omega arith));
     }
 
-module _ (legs : List Float) (n : ℕ) (ok : Legs legs n) (room : n ≤ 64) where
+module _ (legs : List Float) (n : ℕ) (ok : LegsIn legs n) (room : n ≤ 64) where
   sums : T (lt f32-0 (sumTo legs n)) → Parts n (sumTo legs)
   unfolding sumTo
   sums above =
@@ -142,11 +142,11 @@ no-segments : (legs : List Float) → timeAt legs 0 0 ≡ f32-0
 unfolding timeAt shareOf sumTo lt ofBits
 no-segments legs = refl
 
-pub times-start : (legs : List Float) (n : ℕ) → Legs legs n → n ≤ 64 → timeAt legs n 0 ≡ f32-0
+pub times-start : (legs : List Float) (n : ℕ) → LegsIn legs n → n ≤ 64 → timeAt legs n 0 ≡ f32-0
 times-start legs zero ok room = no-segments legs
 times-start legs (suc n) ok room = timed legs (suc n) ok room (zero-lt-suc n) .start
 
-time-le : (legs : List Float) (n : ℕ) → Legs legs n → n ≤ 64 → (i j : ℕ) → i ≤ j → j ≤ n → T (le (timeAt legs n i) (timeAt legs n j))
+time-le : (legs : List Float) (n : ℕ) → LegsIn legs n → n ≤ 64 → (i j : ℕ) → i ≤ j → j ≤ n → T (le (timeAt legs n i) (timeAt legs n j))
 time-le legs zero ok room i j p q =
     let a : i ≡ 0 = omega arith in
     let b : j ≡ 0 = omega arith in
@@ -155,7 +155,7 @@ time-le legs (suc n) ok room i j p q =
     let t = timed legs (suc n) ok room (zero-lt-suc n) in
     steps-ascend (timeAt legs (suc n)) (suc n) (t .number) (t .ascend) i j p q
 
-pub times-ascend : (legs : List Float) (n : ℕ) → Legs legs n → n ≤ 64 → Ascends (timesOf legs n) (suc n)
+pub times-ascend : (legs : List Float) (n : ℕ) → LegsIn legs n → n ≤ 64 → Ascends (timesOf legs n) (suc n)
 unfolding timesOf
 times-ascend legs n ok room i j p q =
     rw (getD-padded (timeAt legs n) 65 f32-0 (suc n) i nan (omega arith), getD-padded (timeAt legs n) 65 f32-0 (suc n) j nan q) (time-le legs n ok room i j p (omega arith))

@@ -79,7 +79,7 @@ pathSegmentAt xs ys bends times len closed n i =
     (cond (ltb n i) (pathHold (getD times n nan) (inf false) (getD xs last nan) (getD ys last nan))
     (legSegment xs ys bends times len i))
 
--- The segment that holds t; of no points, 0 everywhere, and of a path with no segment, its first point. A NaN, which no accepted call gives, counts as before the first time. Where two neighbouring times lie 2 ^ -128 or less apart the reciprocal of their distance is infinite, and the values between them can be NaN.
+-- The segment that holds t; of no points, 0 everywhere, and of a path with no segment, its first point. A NaN, which no accepted call gives, counts as before the first time.
 unfoldable pub pathSegment : List Float → List Float → List Float → List Float → ℕ → Bool → Float → PathSegment
 pathSegment xs ys bends times len closed t =
     let n = segmentsOf len closed in

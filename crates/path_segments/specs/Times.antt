@@ -32,6 +32,6 @@ timesOf legs n = padded 65 f32-0 (tabulate (timeAt legs n) (suc n))
 
 -- ---- what the laws speak of
 
--- as question 5 asks: each of the first n legs is 0 to 2 long
-abbrev pub Legs : List Float → ℕ → Type 0
-Legs legs n = (k : ℕ) → k < n → Between f32-0 (getD legs k nan) f32-2
+-- each of the first n legs is 0 to 2 long
+abbrev pub LegsIn : List Float → ℕ → Type 0
+LegsIn legs n = (k : ℕ) → k < n → Between f32-0 (getD legs k nan) f32-2

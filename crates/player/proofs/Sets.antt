@@ -11,8 +11,6 @@ use lib.ListN.{getD, set, take, drop}
 use lib.Seq.{set-split}
 use lib.Ieee.{Float, nan, eq}
 use lib.Ieee.Scale.{finite}
-use Rattle.floatlaws.specs.Numbers.{f32-0}
-use Rattle.listlaws.specs.Tables.{padded}
 use Rattle.shape.specs.declared.Loopback.{Loopback}
 use Rattle.shape.specs.declared.Loopback.the-variants as Loopback
 use Rattle.shape.specs.declared.Shape.{Shape}
@@ -32,7 +30,7 @@ use Rattle.curves.specs.declared.PathPointCodes.{PathPointCodes}
 use Rattle.curves.specs.declared.LoopbackCodes.{LoopbackCodes}
 use Rattle.curves.specs.Given.{isYes, givenPoints, loopbackOf, givenShape, givenPathPoints, givenPath}
 use Rattle.questions.specs.Questions.{firstNo, settingsQuestions, shapeQuestions, pathQuestions, busQuestions}
-use Rattle.questions.proofs.Facts.{settings-in, shape-accepted, PathAccepted, path-accepted, bus-accepted}
+use Rattle.questions.proofs.Facts.{settings-in, shape-accepted, bus-accepted}
 use Rattle.calls.specs.State.{withSettings, withShape, withPath, withBus, movedBuses}
 use Rattle.calls.specs.Calls.{settings, shape, path, bus, questions, answer, accepted}
 use Rattle.player.specs.declared.Player.{Player}
@@ -123,39 +121,30 @@ module _ (p : Player) (v : Valid p) (points : List PointCodes) (count : ℕ) (lo
 
 -- ---- a path
 
-module _ (p : Player) (v : Valid p) (points : List PathPointCodes) (count closed : ℕ) (legs : List Float) (a : ℕ)
-    (asked : a ≡ firstNo (pathQuestions true points count closed legs)) where
+module _ (p : Player) (v : Valid p) (points : List PathPointCodes) (count closed : ℕ) (a : ℕ) (asked : a ≡ firstNo (pathQuestions true points count closed)) where
   abbrev travelled : Path
-  travelled = givenPath points count closed legs
+  travelled = givenPath points count closed
 
-  path-put : a ≡ answer (stateOf p) (path points count closed legs)
+  path-put : a ≡ answer (stateOf p) (path points count closed)
   unfolding answer questions
   path-put = asked
 
-  pub path-refused : (a ≡ 0 → ⊥) → Changes p (path points count closed legs) (record { answer = a; player = p })
+  pub path-refused : (a ≡ 0 → ⊥) → Changes p (path points count closed) (record { answer = a; player = p })
   path-refused e = refused p _ a path-put e v
 
-  pub path-facts : a ≡ 0 → PathAccepted true count closed legs
-  path-facts e = path-accepted true points count closed legs (sym asked ∙ e)
-
-  travelled-in : a ≡ 0 → PathIn travelled
+  travelled-in : PathIn travelled
   unfolding givenPath pathOf
-  travelled-in e =
-      record {
-        short = min-le-right count 64;
-        times-up = accepted-path (givenPathPoints points (min count 64)) count (isYes closed) (padded 64 f32-0 legs) (path-facts e .legs-in);
-      }
+  travelled-in = record { short = min-le-right count 64; times-up = accepted-path (givenPathPoints points (min count 64)) count (isYes closed) }
 
   abbrev byPath : Path → Player
   byPath s = let l = p .slot .lfo in edited p (l .settings) (l .shape) s (l .buses)
 
-  pub path-set : a ≡ 0 → (s : Path) → s ≡ travelled → (r : Player) → r ≡ byPath s
-      → Changes p (path points count closed legs) (record { answer = a; player = r })
+  pub path-set : a ≡ 0 → (s : Path) → s ≡ travelled → (r : Player) → r ≡ byPath s → Changes p (path points count closed) (record { answer = a; player = r })
   path-set e s is r made =
       let i = v .lfo-in in
       rw (made, is)
       (changed p _ a path-put e (byPath travelled) (unfold accepted withPath in refl)
-      (edited-in p v _ _ _ _ (i .settings-in) (i .shape-in) (travelled-in e) (i .buses-in)))
+      (edited-in p v _ _ _ _ (i .settings-in) (i .shape-in) travelled-in (i .buses-in)))
 
 -- ---- a bus
 

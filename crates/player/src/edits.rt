@@ -71,22 +71,21 @@ pub fn set_shape(
     Changed { answer, player }
 }
 
-// Sets the path: the first 64 of `count` points, whether it is closed, and the lengths of its legs.
+// Sets the path: the first 64 of `count` points, and whether it is closed.
 pub fn set_path(
     p: Player,
     points: [PathPointCodes; MAX_POINTS],
     count: usize,
     closed: u64,
-    legs: &[f32],
 ) -> Changed
     requires { ⌜ Valid p ⌝ }
-    ensures { λ r. ⌜ Changes p (call.path points count closed (now (legs .entry))) r ⌝ }
+    ensures { λ r. ⌜ Changes p (call.path points count closed) r ⌝ }
 {
-    let answer = questions::path_answer(true, points, count, closed, legs);
+    let answer = questions::path_answer(true, points, count, closed);
     if answer != 0 {
         return Changed { answer, player: p };
     }
-    let path = curves::path_of(points, count, closed, legs);
+    let path = curves::path_of(points, count, closed);
     let slot = p.slot;
     let mut lfo = slot.lfo;
     lfo.path = path;

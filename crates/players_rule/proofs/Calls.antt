@@ -33,7 +33,7 @@ set-heard : (side : Side) (s : State) (c : Call) (cs : List Call) → Sets c →
 unfolding heard
 set-heard side s (settings c) cs e = refl
 set-heard side s (shape points n loopback) cs e = refl
-set-heard side s (path points n closed legs) cs e = refl
+set-heard side s (path points n closed) cs e = refl
 set-heard side s (bus k z) cs e = refl
 set-heard side s (phase t) cs e = absurd e
 set-heard side s (block t n restart x y) cs e = absurd e
@@ -42,7 +42,7 @@ set-window : (s : State) (c : Call) (cs : List Call) → Sets c → window s (c 
 unfolding window
 set-window s (settings c) cs e = refl
 set-window s (shape points n loopback) cs e = refl
-set-window s (path points n closed legs) cs e = refl
+set-window s (path points n closed) cs e = refl
 set-window s (bus k z) cs e = refl
 set-window s (phase t) cs e = absurd e
 set-window s (block t n restart x y) cs e = absurd e

@@ -1,32 +1,30 @@
 -- What the questions leave of a call that is accepted, of which `firstNo` is 0. Assumes nothing.
-use Prim.Native.Nat.{ℕ, zero, suc, _+_, _-_, _^_, _≤_, _<_, min}
+use Prim.Native.Nat.{ℕ, zero, suc, _+_, _^_, _≤_, _<_, min}
 use mathlib.Core.Path.{_≡_, refl, sym, subst}
 use mathlib.Core.Logic.{inl, inr}
 use mathlib.Core.Bool.{Bool, true, false, not, cond}
 use mathlib.Core.List.{List, _∷_}
-use native.Mathlib.Nat.{eq-or-lt-of-le, le-of-suc-le-suc, min-le-right}
+use native.Mathlib.Nat.{eq-or-lt-of-le, le-of-suc-le-suc}
 use native.Mathlib.Omega.{arith}
-use borrow.Author.Tests.{ltb-true, leb-true, eqb-true, eq-eqb}
+use borrow.Author.Tests.{ltb-true, leb-true, eq-eqb}
 use lib.Dec.{T, eqb, ltb, leb}
-use lib.ListN.{length, getD, List·getD-append}
+use lib.ListN.{getD}
 use lib.IntN.{pos}
-use lib.Ieee.{Float, nan, fin, ofBits, neg, le, isNan}
+use lib.Ieee.{Float, fin, ofBits, neg, le, isNan}
 use lib.Ieee.Scale.{finite}
-use Rattle.floatlaws.specs.Numbers.{Between, f32-0, f32-2, f64-0, f64-¼}
+use Rattle.floatlaws.specs.Numbers.{Between, f64-0, f64-¼}
 use Rattle.floatlaws.proofs.NoNan.{finite-number}
 use Rattle.floatlaws.proofs.Order.{le-trans-at}
 use Rattle.floatlaws.specs.Size.{Size}
 use Rattle.floatlaws.proofs.Size.{size-of-le, size-of-range}
 use Rattle.floatlaws.proofs.Tests.{yes-so}
 use Rattle.floatlaws.proofs.Unit.{zero-float}
-use Rattle.listlaws.specs.Tables.{padded}
 use Rattle.listlaws.proofs.Tabulation.{getD-padded}
 use Rattle.points.specs.declared.PointMod.the-variants as PointMod
 use Rattle.points.specs.Modulation.{FiniteMod}
 use Rattle.shape.specs.declared.Loopback.the-variants as Loopback
 use Rattle.shape.specs.Points.{blank, noPoint, FinitePoint}
 use Rattle.shape.specs.Shapes.{within}
-use Rattle.path_segments.specs.Times.{segmentsOf, Legs}
 use Rattle.settings.specs.Choices.{feelAt, yesNoAt}
 use Rattle.settings.specs.Divisions.{divisionAt}
 use Rattle.settings.specs.Times.{rates, syncedRate, hzRate, rateAt, scales, scaleAt}
@@ -57,10 +55,10 @@ use Rattle.curves.specs.declared.ModCodes.{ModCodes}
 use Rattle.curves.specs.declared.PointCodes.{PointCodes}
 use Rattle.curves.specs.declared.PathPointCodes.{PathPointCodes}
 use Rattle.curves.specs.declared.LoopbackCodes.{LoopbackCodes}
-use Rattle.curves.specs.Given.{isYes, modOf, noPointCodes, noPathPointCodes, pointOf, givenPoints, loopbackOf}
+use Rattle.curves.specs.Given.{modOf, noPointCodes, noPathPointCodes, pointOf, givenPoints, loopbackOf}
 use Rattle.questions.specs.declared.RestartCodes.{RestartCodes}
 use Rattle.questions.specs.Limits.{f64-64, f64-1000, f64-768000, f64-2147483647, f64-minus2147483648}
-use Rattle.questions.specs.Tests.{every, everyOf, between, legIn, rateFinite, spanFinite, smoothFinite, settingsFinite, smoothIn, modFinite, pointFinite, pathPointFinite, transportFinite, transportIn, loopbackBelow, pointOnGrid}
+use Rattle.questions.specs.Tests.{every, between, rateFinite, spanFinite, smoothFinite, settingsFinite, smoothIn, modFinite, pointFinite, pathPointFinite, transportFinite, transportIn, loopbackBelow, pathPointOnPaper, pointOnGrid}
 use Rattle.questions.specs.Questions.{Question, firstNo, settingsQuestions, shapeQuestions, pathQuestions, busQuestions, phaseQuestions, blockQuestions}
 use Rattle.questions.proofs.Laws.{and-true, three, five, seven}
 
@@ -291,35 +289,17 @@ shape-accepted others points count loopback h =
 
 -- ---- a path
 
-segments-most : (n : ℕ) (closed : Bool) → segmentsOf n closed ≤ n
-unfolding segmentsOf
-segments-most n closed = at (ltb n 2) closed
-  where
-    at : (b closed : Bool) → cond b 0 (cond closed n (n - 1)) ≤ n
-    at true closed = omega arith
-    at false true = omega arith
-    at false false = omega arith
-
-pub record PathAccepted (others : Bool) (count closed : ℕ) (legs : List Float) : Type 0 where
+pub record PathAccepted (others : Bool) (points : List PathPointCodes) (count : ℕ) : Type 0 where
   pub others-finite : others ≡ true
-  pub length-is : length legs ≡ segmentsOf (min count 64) (isYes closed)
-  pub legs-short : length legs ≤ 64
-  pub legs-in : Legs (padded 64 f32-0 legs) (segmentsOf (min count 64) (isYes closed))
+  pub points-on-paper : (k : ℕ) → k < min count 64 → pathPointOnPaper (getD points k noPathPointCodes) ≡ true
 
-pub path-accepted : (others : Bool) (points : List PathPointCodes) (count closed : ℕ) (legs : List Float)
-    → firstNo (pathQuestions others points count closed legs) ≡ 0 → PathAccepted others count closed legs
+pub path-accepted : (others : Bool) (points : List PathPointCodes) (count closed : ℕ) → firstNo (pathQuestions others points count closed) ≡ 0 → PathAccepted others points count
 unfolding pathQuestions
-path-accepted others points count closed legs h =
+path-accepted others points count closed h =
     let q1 = passed 0 _ _ h in
     let q2 = passed 1 _ _ (q1 .1) in
-    let q3 = passed 2 _ _ (q2 .1) in
-    let q5 = passed 4 _ _ (q3 .1) in
-    let size : length legs ≡ segmentsOf (min count 64) (isYes closed) = eqb-true _ _ (q3 .0) in
+    let q11 = passed 10 _ _ (q2 .1) in
     record {
-      others-finite = three (every (λ k. pathPointFinite (getD points k noPathPointCodes)) (min count 64)) (everyOf finite legs) others (q2 .0) .2;
-      length-is = size;
-      legs-short = omega (arith, segments-most (min count 64) (isYes closed), min-le-right count 64);
-      legs-in = λ k l.
-          subst (λ (x : Float). Between f32-0 x f32-2) (sym (List·getD-append legs _ nan k (omega arith)))
-          (between-so _ _ _ (every-so (λ i. legIn (getD legs i nan)) _ (q5 .0) k (omega arith)));
+      others-finite = and-true (every (λ k. pathPointFinite (getD points k noPathPointCodes)) (min count 64)) others (q2 .0) .1;
+      points-on-paper = λ k l. every-so _ _ (q11 .0) k l;
     }

@@ -2,20 +2,19 @@
 use Prim.Native.Nat.{ℕ, _+_, _^_, min}
 use mathlib.Core.Bool.{Bool, _&&_, cond}
 use mathlib.Core.List.{List, [], _∷_}
-use lib.Dec.{eqb, ltb, leb}
-use lib.ListN.{length, getD}
+use lib.Dec.{ltb, leb}
+use lib.ListN.{getD}
 use lib.Ieee.{Float}
 use lib.Ieee.Scale.{finite}
-use Rattle.path_segments.specs.Times.{segmentsOf}
 use Rattle.settings.specs.declared.record.SettingsCodes.{SettingsCodes}
 use Rattle.settings.specs.declared.record.TransportCodes.{TransportCodes}
 use Rattle.settings.specs.Codes.{settingsKnown, transportKnown}
 use Rattle.curves.specs.declared.PointCodes.{PointCodes}
 use Rattle.curves.specs.declared.PathPointCodes.{PathPointCodes}
 use Rattle.curves.specs.declared.LoopbackCodes.{LoopbackCodes}
-use Rattle.curves.specs.Given.{isYes, noPointCodes, noPathPointCodes}
+use Rattle.curves.specs.Given.{noPointCodes, noPathPointCodes}
 use Rattle.questions.specs.declared.RestartCodes.{RestartCodes}
-use Rattle.questions.specs.Tests.{every, everyOf, pointKnown, pathPointKnown, settingsFinite, pointFinite, pathPointFinite, transportFinite, loopbackBelow, pointOnGrid, legIn, smoothIn, transportIn}
+use Rattle.questions.specs.Tests.{every, pointKnown, pathPointKnown, settingsFinite, pointFinite, pathPointFinite, transportFinite, loopbackBelow, pathPointOnPaper, pointOnGrid, smoothIn, transportIn}
 
 -- a question's number, and whether the answer is yes
 abbrev pub Question : Type 0
@@ -39,13 +38,12 @@ shapeQuestions others points count loopback =
     ∷ (10, every (λ k. pointOnGrid (getD points k noPointCodes)) (min count 64))
     ∷ []
 
--- setting or evaluating a path
-unfoldable pub pathQuestions : Bool → List PathPointCodes → ℕ → ℕ → List Float → List Question
-pathQuestions others points count closed legs =
+-- setting or evaluating a path, and measuring its legs
+unfoldable pub pathQuestions : Bool → List PathPointCodes → ℕ → ℕ → List Question
+pathQuestions others points count closed =
     (1, (every (λ k. pathPointKnown (getD points k noPathPointCodes)) (min count 64) && ltb closed 2))
-    ∷ (2, (every (λ k. pathPointFinite (getD points k noPathPointCodes)) (min count 64) && everyOf finite legs && others))
-    ∷ (3, eqb (length legs) (segmentsOf (min count 64) (isYes closed)))
-    ∷ (5, everyOf legIn legs)
+    ∷ (2, (every (λ k. pathPointFinite (getD points k noPathPointCodes)) (min count 64) && others))
+    ∷ (11, every (λ k. pathPointOnPaper (getD points k noPathPointCodes)) (min count 64))
     ∷ []
 
 -- setting one bus

@@ -1,18 +1,17 @@
 -- What the questions test, each of what a call hands in. Fields of a case that was not chosen, and what stands under "absent", are not looked at. Assumes nothing.
 use Prim.Native.Nat.{ℕ, zero, suc}
 use mathlib.Core.Bool.{Bool, true, _&&_, cond}
-use mathlib.Core.List.{List}
 use lib.Dec.{eqb, ltb}
-use lib.ListN.{length, getD}
-use lib.Ieee.{Float, nan, le}
+use lib.Ieee.{Float, le}
 use lib.Ieee.Scale.{finite}
-use Rattle.floatlaws.specs.Numbers.{f32-0, f32-1, f32-2, f64-0, f64-¼}
+use Rattle.floatlaws.specs.Numbers.{f32-0, f32-1, f64-0, f64-¼}
 use Rattle.settings.specs.declared.record.SettingsCodes.{SettingsCodes}
 use Rattle.settings.specs.declared.record.SmoothCodes.{SmoothCodes}
 use Rattle.settings.specs.declared.record.TransportCodes.{TransportCodes}
 use Rattle.settings.specs.declared.times.RateCodes.{RateCodes}
 use Rattle.settings.specs.declared.times.SpanCodes.{SpanCodes}
 use Rattle.bend.specs.Grid.{clampedCurve, onGrid}
+use Rattle.leg.specs.Paper.{onPaper}
 use Rattle.curves.specs.declared.ModCodes.{ModCodes}
 use Rattle.curves.specs.declared.PointCodes.{PointCodes}
 use Rattle.curves.specs.declared.PathPointCodes.{PathPointCodes}
@@ -23,10 +22,6 @@ use Rattle.questions.specs.Limits.{f64-64, f64-1000, f64-768000, f64-214
 unfoldable pub every : (ℕ → Bool) → ℕ → Bool
 every t zero = true
 every t (suc n) = every t n && t n
-
--- a test of each of a list of floats
-abbrev pub everyOf : (Float → Bool) → List Float → Bool
-everyOf t l = every (λ k. t (getD l k nan)) (length l)
 
 abbrev pub between : Float → Float → Float → Bool
 between lo x hi = le lo x && le x hi
@@ -80,15 +75,17 @@ transportFinite c =
 abbrev pub loopbackBelow : LoopbackCodes → ℕ → Bool
 loopbackBelow c n = cond (eqb (c .code) 1) (ltb (c .index) n) true
 
+-- ---- 11. "A path coordinate that is no multiple of 1/4096 within 0 to 1 gets 11"
+
+abbrev pub pathPointOnPaper : PathPointCodes → Bool
+pathPointOnPaper c = onPaper (c .x) && onPaper (c .y)
+
 -- ---- 10. "A clamped curve off the grid is refused with 10"
 
 abbrev pub pointOnGrid : PointCodes → Bool
 pointOnGrid c = onGrid (clampedCurve (c .curve))
 
--- ---- 5. "Is .. each leg within 0 to 2, and the smoothing coefficient, if present, within 0 to 1"
-
-abbrev pub legIn : Float → Bool
-legIn l = between f32-0 l f32-2
+-- ---- 5. "Is .. the smoothing coefficient, if present, within 0 to 1"
 
 abbrev pub smoothIn : SmoothCodes → Bool
 smoothIn c = cond (eqb (c .code) 1) (between f32-0 (c .coefficient) f32-1) true

@@ -9,13 +9,14 @@ use lib.Ieee.Scale.{finite}
 use Rattle.floatlaws.specs.Numbers.{f32-0, f32-1, f32-2, f32-100, f64-0, f64-4, f64-120, f32}
 use Rattle.floatlaws.specs.Extrema.{clampOf}
 use Rattle.floatlaws.specs.Multiples.{isMultiple}
-use Rattle.path_segments.specs.Times.{segmentsOf}
+use Rattle.leg.specs.Paper.{onPaper}
 use Rattle.settings.specs.declared.record.TransportCodes.{TransportCodes}
 use Rattle.settings.specs.Codes.{transportKnown}
 use Rattle.curves.specs.declared.PointCodes.{PointCodes}
+use Rattle.curves.specs.declared.PathPointCodes.{PathPointCodes}
 use Rattle.curves.specs.Given.{noMod}
 use Rattle.questions.specs.Limits.{f64-1000, f64-768000}
-use Rattle.questions.specs.Tests.{every, everyOf, pointKnown, pathPointKnown, pointFinite, pathPointFinite, transportFinite, transportIn}
+use Rattle.questions.specs.Tests.{every, pointKnown, pathPointKnown, pointFinite, pathPointFinite, transportFinite, transportIn}
 use Rattle.questions.specs.Questions.{firstNo, shapeQuestions, pathQuestions, busQuestions, blockQuestions}
 
 -- ---- blocks
@@ -76,15 +77,25 @@ asked = refl
 
 -- ---- paths
 
--- of two points, with so many legs of this length
-abbrev path : ℕ → ℕ → Float → ℕ
-path closed given leg =
-    firstNo (pathQuestions true (replicate 64 (record { x = f32-0; y = f32-0; bend = f32-0; «x_mod» = noMod; «y_mod» = noMod })) 2 closed (replicate given leg))
+-- of so many points, all at 0, 0 but for the one after k of them, which is at x and y
+abbrev path : ℕ → ℕ → Float → Float → ℕ → ℕ
+path k count x y closed =
+    let at : Float → Float → PathPointCodes = λ x y. record { x = x; y = y; bend = f32-100; «x_mod» = noMod; «y_mod» = noMod } in
+    firstNo (pathQuestions true (replicate k (at f32-0 f32-0) ++ at x y ∷ replicate (63 - k) (at f32-0 f32-0)) count closed)
 
--- an open one has one segment and a closed one two; a leg is at most 2
-legs : path 0 1 f32-2 ∷ path 1 2 f32-2 ∷ path 1 1 f32-2 ∷ path 0 1 f32-100 ∷ path 0 2 f32-100 ∷ path 0 2 nan ∷ path 2 2 nan ∷ [] ≡ 0 ∷ 0 ∷ 3 ∷ 5 ∷ 3 ∷ 2 ∷ 1 ∷ []
-unfolding firstNo pathQuestions segmentsOf every everyOf pathPointKnown pathPointFinite finite le neg ofBits
-legs = refl
+-- the corners of the paper, -0, and a square's; past an edge, between two lines, in x and in y
+coordinates :
+    path 0 1 f32-1 f32-1 0 ∷ path 0 1 (neg f32-0) f32-0 1 ∷ path 0 1 (f32 4095 4096) (f32 1 4096) 0
+    ∷ path 0 1 (f32 4097 4096) f32-0 0 ∷ path 0 1 f32-0 f32-2 0 ∷ path 0 1 (neg (f32 1 4096)) f32-0 0 ∷ path 0 1 (f32 1 8192) f32-0 0 ∷ path 0 1 f32-0 (f32 1 8192) 0 ∷ []
+    ≡ 0 ∷ 0 ∷ 0 ∷ 11 ∷ 11 ∷ 11 ∷ 11 ∷ 11 ∷ []
+unfolding firstNo pathQuestions every pathPointKnown pathPointFinite onPaper isMultiple finite le neg ofBits round
+coordinates = refl
+
+-- question 11 is put to each point that is kept, the first and the last, and to no other; it comes after 1 and 2
+on-paper : path 0 3 (f32 1 8192) f32-0 0 ∷ path 2 3 (f32 1 8192) f32-0 0 ∷ path 3 3 (f32 1 8192) f32-0 0 ∷ path 63 70 (f32 1 8192) f32-0 0 ∷ path 63 63 (f32 1 8192) f32-0 0 ∷ path 0 2 (f32 1 8192) nan 0 ∷ path 0 2 (f32 1 8192) nan 2 ∷ []
+    ≡ 11 ∷ 11 ∷ 0 ∷ 11 ∷ 0 ∷ 2 ∷ 1 ∷ []
+unfolding firstNo pathQuestions every pathPointKnown pathPointFinite onPaper isMultiple finite le neg ofBits round
+on-paper = refl
 
 -- ---- buses
 

@@ -1,5 +1,4 @@
 // Tests of a shape and a path as a call hands them in.
-use super::floats::finite_all;
 use super::floats::if_chosen;
 use super::floats::is_finite_f32;
 use curves::LoopbackCodes;
@@ -12,9 +11,8 @@ ghost use mathlib.Core.Bool.{_&&_};
 ghost use Prim.Native.Nat.{min};
 ghost use lib.Dec.{ltb};
 ghost use lib.ListN.{getD};
-ghost use lib.Ieee.Scale.{finite};
 ghost use Rattle.curves.specs.Given.{noPointCodes, noPathPointCodes};
-ghost use Rattle.questions.specs.Tests.{every, everyOf, pointKnown, pathPointKnown, modFinite, pointFinite, pathPointFinite, loopbackBelow, pointOnGrid};
+ghost use Rattle.questions.specs.Tests.{every, pointKnown, pathPointKnown, modFinite, pointFinite, pathPointFinite, loopbackBelow, pathPointOnPaper, pointOnGrid};
 
 fn mod_finite(c: ModCodes) -> bool
     ensures { λ r. ⌜ r ≡ modFinite c ⌝ }
@@ -127,13 +125,8 @@ pub fn path_known(points: [PathPointCodes; MAX_POINTS], count: usize, closed: u6
 }
 
 // Question 2.
-pub fn path_finite(
-    others: bool,
-    points: [PathPointCodes; MAX_POINTS],
-    count: usize,
-    legs: &[f32],
-) -> bool
-    ensures { λ r. ⌜ r ≡ (every (λ k. pathPointFinite (getD points k noPathPointCodes)) (min count 64) && everyOf finite (now (legs .entry)) && others) ⌝ }
+pub fn path_finite(others: bool, points: [PathPointCodes; MAX_POINTS], count: usize) -> bool
+    ensures { λ r. ⌜ r ≡ (every (λ k. pathPointFinite (getD points k noPathPointCodes)) (min count 64) && others) ⌝ }
 {
     let n = points::kept(count);
     let mut all = true;
@@ -142,5 +135,25 @@ pub fn path_finite(
         all = all & path_point_finite(points[i]);
         i += 1;
     }
-    all & finite_all(legs) & others
+    all & others
+}
+
+fn path_point_on_paper(c: PathPointCodes) -> bool
+    ensures { λ r. ⌜ r ≡ pathPointOnPaper c ⌝ }
+{
+    leg::on_paper(c.x) & leg::on_paper(c.y)
+}
+
+// Question 11.
+pub fn path_on_paper(points: [PathPointCodes; MAX_POINTS], count: usize) -> bool
+    ensures { λ r. ⌜ r ≡ every (λ k. pathPointOnPaper (getD points k noPathPointCodes)) (min count 64) ⌝ }
+{
+    let n = points::kept(count);
+    let mut all = true;
+    let mut i = 0;
+    while i < n {
+        all = all & path_point_on_paper(points[i]);
+        i += 1;
+    }
+    all
 }

@@ -2,7 +2,7 @@
 ghost use mathlib.Core.Path.{_≡_};
 ghost use mathlib.Core.Bool.{cond, true};
 ghost use lib.Ieee.Scale.{finite};
-ghost use Rattle.questions.specs.Tests.{between, everyOf};
+ghost use Rattle.questions.specs.Tests.{between};
 
 // A test of what stands under a case; where the case was not chosen it is passed.
 pub fn if_chosen(chosen: bool, passes: bool) -> bool
@@ -35,28 +35,4 @@ pub fn between_f64(lo: f64, x: f64, hi: f64) -> bool
     ensures { λ r. ⌜ r ≡ between lo x hi ⌝ }
 {
     (lo <= x) & (x <= hi)
-}
-
-pub fn finite_all(l: &[f32]) -> bool
-    ensures { λ r. ⌜ r ≡ everyOf finite (now (l .entry)) ⌝ }
-{
-    let mut all = true;
-    let mut i = 0;
-    while i < l.len() {
-        all = all & is_finite_f32(l[i]);
-        i += 1;
-    }
-    all
-}
-
-pub fn between_all(lo: f32, l: &[f32], hi: f32) -> bool
-    ensures { λ r. ⌜ r ≡ everyOf (λ x. between lo x hi) (now (l .entry)) ⌝ }
-{
-    let mut all = true;
-    let mut i = 0;
-    while i < l.len() {
-        all = all & between_f32(lo, l[i], hi);
-        i += 1;
-    }
-    all
 }

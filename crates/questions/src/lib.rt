@@ -6,13 +6,13 @@ mod settings_tests;
 use curve_tests::loopback_below;
 use curve_tests::path_finite;
 use curve_tests::path_known;
+use curve_tests::path_on_paper;
 use curve_tests::shape_finite;
 use curve_tests::shape_known;
 use curve_tests::shape_on_grid;
 use curves::LoopbackCodes;
 use curves::PathPointCodes;
 use curves::PointCodes;
-use floats::between_all;
 pub use floats::is_finite_f32;
 pub use floats::is_finite_f64;
 use points::MAX_POINTS;
@@ -78,28 +78,23 @@ pub fn shape_answer(
     0
 }
 
-// Setting or evaluating a path.
+// Setting or evaluating a path, and measuring its legs.
 pub fn path_answer(
     others: bool,
     points: [PathPointCodes; MAX_POINTS],
     count: usize,
     closed: u64,
-    legs: &[f32],
 ) -> u8
-    ensures { λ r. ⌜ r ≡ firstNo (pathQuestions others points count closed (now (legs .entry))) ⌝ }
+    ensures { λ r. ⌜ r ≡ firstNo (pathQuestions others points count closed) ⌝ }
 {
-    let n = points::kept(count);
     if !path_known(points, count, closed) {
         return 1;
     }
-    if !path_finite(others, points, count, legs) {
+    if !path_finite(others, points, count) {
         return 2;
     }
-    if legs.len() != path_segments::segment_count(n, closed == 1) {
-        return 3;
-    }
-    if !between_all(0.0, legs, 2.0) {
-        return 5;
+    if !path_on_paper(points, count) {
+        return 11;
     }
     0
 }

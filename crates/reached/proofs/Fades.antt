@@ -98,7 +98,7 @@ full-accepted : (p : State) (c : Call) → carries c ≡ false → Full (p .voic
 unfolding accepted withShape withPath withBus
 full-accepted p (settings c) e f = full-set p (settingsAt c) f
 full-accepted p (shape points n loopback) e f = f
-full-accepted p (path points n closed legs) e f = f
+full-accepted p (path points n closed) e f = f
 full-accepted p (bus k z) e f = f
 full-accepted p (phase t) e f = f
 full-accepted p (block c n r x y) e f = rw (none-pending r e) (full-played p (transportAt c) n f)

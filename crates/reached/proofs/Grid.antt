@@ -63,7 +63,7 @@ accepted-grid : (p : State) (c : Call) → GridIn c → StateGrid p → StateGri
 unfolding accepted withShape withPath withBus
 accepted-grid p (settings c) k g = set-grid p (settingsAt c) (known-grid c k) g
 accepted-grid p (shape points n loopback) k g = g
-accepted-grid p (path points n closed legs) k g = g
+accepted-grid p (path points n closed) k g = g
 accepted-grid p (bus i z) k g = g
 accepted-grid p (phase t) k g = g
 accepted-grid p (block c n r x y) k g = played-grid p (transportAt c) n (pendingOf r) g

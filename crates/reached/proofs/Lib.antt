@@ -6,4 +6,6 @@ pub mod Positions
 pub mod Fades
 pub mod Spans
 pub mod Steps
+pub mod Stored
 pub mod Bends
+pub mod Legs

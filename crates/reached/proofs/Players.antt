@@ -11,7 +11,7 @@ use Rattle.settings.proofs.Read.{transport-of}
 use Rattle.reach.specs.Bounds.{SettingsIn, TransportIn}
 use Rattle.bank.specs.declared.parts.Pending.{Pending}
 use Rattle.questions.proofs.Facts.{TransportAccepted, transport-in, BlockAccepted, block-accepted}
-use Rattle.calls.specs.Calls.{block, questions, answer, made}
+use Rattle.calls.specs.Calls.{questions, answer, made}
 use Rattle.player.specs.declared.Player.{Player}
 use Rattle.player.specs.Player.{stateOf, Valid}
 use Rattle.reached.specs.Players.{Reached, AcceptedBlock, EachAccepted}

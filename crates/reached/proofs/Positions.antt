@@ -15,7 +15,7 @@ use Rattle.bank.specs.declared.parts.Pending.the-variants.{None, At}
 use Rattle.slot.proofs.Positions.{first-placed, later-placed}
 use Rattle.questions.proofs.Facts.{transport-in, phase-accepted}
 use Rattle.calls.specs.Blocks.{prepared, curve, phaseOf}
-use Rattle.calls.specs.Calls.{phase, questions, answer}
+use Rattle.calls.specs.Calls.{questions, answer}
 use Rattle.player.specs.declared.Player.{Player}
 use Rattle.player.specs.Player.{stateOf}
 use Rattle.player.specs.Readings.{phaseAnswer}

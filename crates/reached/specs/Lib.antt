@@ -3,3 +3,4 @@ pub mod Players
 pub mod Frames
 pub mod Limits
 pub mod Bends
+pub mod Legs

@@ -24,7 +24,7 @@ use Rattle.reached.specs.Traces.{History}
 abbrev pub GridIn : Call → Type 0
 GridIn (settings c) = c .«grid_x» < 2 ^ 16
 GridIn (shape points count loopback) = Unit
-GridIn (path points count closed legs) = Unit
+GridIn (path points count closed) = Unit
 GridIn (bus k value) = Unit
 GridIn (phase t) = Unit
 GridIn (block t frames restart x y) = Unit
@@ -43,7 +43,7 @@ pub record Reached (p : Player) : Type 0 where
 abbrev pub carries : Call → Bool
 carries (settings c) = false
 carries (shape points count loopback) = false
-carries (path points count closed legs) = false
+carries (path points count closed) = false
 carries (bus k value) = false
 carries (phase t) = false
 carries (block t frames restart x y) = isYes (restart .code)

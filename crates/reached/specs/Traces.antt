@@ -20,7 +20,7 @@ use Rattle.player.specs.Readings.{readingAnswer, phaseAnswer}
 abbrev pub Sets : Call → Type 0
 Sets (settings c) = Unit
 Sets (shape points n loopback) = Unit
-Sets (path points n closed legs) = Unit
+Sets (path points n closed) = Unit
 Sets (bus k z) = Unit
 Sets (phase t) = ⊥
 Sets (block t n restart x y) = ⊥

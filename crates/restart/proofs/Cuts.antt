@@ -169,8 +169,8 @@ module _ (s : Settings) (q : Curve) (rate : Rate) (S : Standing s rate) where
       edit-case side p (step p (settings c)) cs (accepts p (settings c)) (refused-player p (settings c)) d ev (heard-plays side cs)
   heard-plays side (shape points n loopback ∷ cs) p d ev =
       edit-case side p (step p (shape points n loopback)) cs (accepts p (shape points n loopback)) (refused-player p (shape points n loopback)) d ev (heard-plays side cs)
-  heard-plays side (path points n closed legs ∷ cs) p d ev =
-      edit-case side p (step p (path points n closed legs)) cs (accepts p (path points n closed legs)) (refused-player p (path points n closed legs)) d ev (heard-plays side cs)
+  heard-plays side (path points n closed ∷ cs) p d ev =
+      edit-case side p (step p (path points n closed)) cs (accepts p (path points n closed)) (refused-player p (path points n closed)) d ev (heard-plays side cs)
   heard-plays side (bus k z ∷ cs) p d ev =
       edit-case side p (step p (bus k z)) cs (accepts p (bus k z)) (refused-player p (bus k z)) d ev (heard-plays side cs)
   heard-plays side (phase c ∷ cs) p d ev = refused-case side p (step p (phase c)) cs (phase-keeps p c) d ev (heard-plays side cs)

@@ -95,7 +95,7 @@ met =
       equal = record {
         settings = refl;
         shape = record { count = refl; points = refl; loopback = refl };
-        path = record { count = refl; points = refl; closed = refl; times = refl };
+        path = record { count = refl; points = refl; closed = refl };
         buses = refl;
       };
       gets₁ = more (record { same = refl; unlocked = refl }) none;

@@ -60,7 +60,7 @@ good-accepted : (p : State) (c : Call) → answer p c ≡ 0 → Good p → Good 
 unfolding accepted answer questions withShape withPath withBus
 good-accepted p (settings c) e g = good-set p (settingsAt c) (settings-fine c (settings-accepted c e .finite-all)) g
 good-accepted p (shape points n loopback) e g = record { settled = g .settled; shape-kept = given-shape points n loopback; path-kept = g .path-kept }
-good-accepted p (path points n closed legs) e g = record { settled = g .settled; shape-kept = g .shape-kept; path-kept = given-path points n closed legs }
+good-accepted p (path points n closed) e g = record { settled = g .settled; shape-kept = g .shape-kept; path-kept = given-path points n closed }
 good-accepted p (bus k z) e g = record { settled = g .settled; shape-kept = g .shape-kept; path-kept = g .path-kept }
 good-accepted p (phase c) e g = g
 good-accepted p (block c n r x y) e g = good-played p (transportAt c) n (pendingOf r) g

@@ -42,7 +42,7 @@ unfoldable pub heard : Side → State → List Call → List Float
 heard side p [] = []
 heard side p (settings c ∷ cs) = cond (accepts p (settings c)) [] (heard side (step p (settings c)) cs)
 heard side p (shape points n loopback ∷ cs) = cond (accepts p (shape points n loopback)) [] (heard side (step p (shape points n loopback)) cs)
-heard side p (path points n closed legs ∷ cs) = cond (accepts p (path points n closed legs)) [] (heard side (step p (path points n closed legs)) cs)
+heard side p (path points n closed ∷ cs) = cond (accepts p (path points n closed)) [] (heard side (step p (path points n closed)) cs)
 heard side p (bus k z ∷ cs) = cond (accepts p (bus k z)) [] (heard side (step p (bus k z)) cs)
 heard side p (phase c ∷ cs) = heard side (step p (phase c)) cs
 heard side p (block c n restart x y ∷ cs) =
@@ -55,7 +55,7 @@ unfoldable pub window : State → List Call → List TransportCodes
 window p [] = []
 window p (settings c ∷ cs) = cond (accepts p (settings c)) [] (window (step p (settings c)) cs)
 window p (shape points n loopback ∷ cs) = cond (accepts p (shape points n loopback)) [] (window (step p (shape points n loopback)) cs)
-window p (path points n closed legs ∷ cs) = cond (accepts p (path points n closed legs)) [] (window (step p (path points n closed legs)) cs)
+window p (path points n closed ∷ cs) = cond (accepts p (path points n closed)) [] (window (step p (path points n closed)) cs)
 window p (bus k z ∷ cs) = cond (accepts p (bus k z)) [] (window (step p (bus k z)) cs)
 window p (phase c ∷ cs) = window (step p (phase c)) cs
 window p (block c n restart x y ∷ cs) =

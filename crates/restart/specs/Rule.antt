@@ -100,15 +100,13 @@ pub record SameShape (a b : Shape) : Type 0 where
   pub points : take (a .len) (a .points) ≡ take (b .len) (b .points)
   pub loopback : a .loopback ≡ b .loopback
 
--- and of a stored path, whose legs are there as the times that they give (`same-legs` of proofs/Kept.antt)
+-- and of a stored path; its points give the legs, and the legs the times
 pub record SamePath (p q : Path) : Type 0 where
   pub count : p .len ≡ q .len
   pub points : take (p .len) (p .points) ≡ take (q .len) (q .points)
   pub closed : p .closed ≡ q .closed
-  pub times : p .times ≡ q .times
 
--- "the two players have equal settings, curve, supplied numbers and stored buses". The supplied numbers are the legs of the path, and the smoothing coefficient, which is one of
--- the settings.
+-- "the two players have equal settings, curve, supplied numbers and stored buses". The one supplied number is the smoothing coefficient, which is one of the settings.
 pub record Equal (p q : State) : Type 0 where
   pub settings : p .lfo .settings ≡ q .lfo .settings
   pub shape : SameShape (p .lfo .shape) (q .lfo .shape)

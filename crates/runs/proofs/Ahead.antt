@@ -17,7 +17,7 @@ use Rattle.number.specs.Read.{leading, numberOf, shortest, judged, readFrom, re
 use Rattle.runs.specs.Parser.{Parsed, read, malformed, Parser, after, _then_, done}
 use Rattle.runs.specs.Fields.{parsed, number, below, f32, f64, numberIf, byteIf, f32If}
 use Rattle.runs.specs.Records.{rate, span, smooth, settings, scale, transport, restart}
-use Rattle.runs.specs.Curves.{kept, floats, list, modulation, point, loopback, shape, pathPoint, path}
+use Rattle.runs.specs.Curves.{kept, modulation, point, loopback, shape, pathPoint, path}
 
 pub record Ahead {A : Type 0} (p : Parser A) : Type 0 where
   pub ahead : (run : List ℕ) (at : ℕ) (a : A) (next : ℕ) → p run at ≡ read a next → (at < next) × (next ≤ length run)
@@ -221,20 +221,6 @@ steady-kept blank p h (suc n) =
     steady-then _ _ (steady-ahead h) λ _.
     steady-done _
 
-pub steady-floats : (n : ℕ) → Steady (floats n)
-unfolding floats
-steady-floats zero = steady-done _
-steady-floats (suc n) =
-    steady-then _ _ (steady-floats n) λ _.
-    steady-then _ _ (steady-ahead ahead-f32) λ _.
-    steady-done _
-
-pub ahead-list : Ahead list
-unfolding list
-ahead-list =
-    ahead-then _ _ (ahead-below _) λ _.
-    steady-floats _
-
 pub ahead-modulation : Ahead modulation
 unfolding modulation
 ahead-modulation =
@@ -285,5 +271,4 @@ ahead-path =
     ahead-then _ _ (ahead-below _) λ _.
     steady-then _ _ (steady-ahead ahead-number) λ _.
     steady-then _ _ (steady-kept _ _ ahead-path-point _) λ _.
-    steady-then _ _ (steady-ahead ahead-list) λ _.
     steady-done _

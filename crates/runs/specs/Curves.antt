@@ -1,20 +1,19 @@
 -- Shapes and paths in a run, each a line of docs/RUN.md. Assumes nothing.
 use Prim.Native.Nat.{ℕ, zero, suc}
-use mathlib.Core.List.{List, [], _∷_, _++_}
+use mathlib.Core.List.{List}
 use lib.Dec.{eqb}
-use lib.ListN.{set, replicate, take}
-use lib.Ieee.{Float}
+use lib.ListN.{set, replicate}
 use Rattle.floatlaws.specs.Numbers.{f32-0}
 use Rattle.curves.specs.declared.ModCodes.{ModCodes}
 use Rattle.curves.specs.declared.PointCodes.{PointCodes}
 use Rattle.curves.specs.declared.PathPointCodes.{PathPointCodes}
 use Rattle.curves.specs.declared.LoopbackCodes.{LoopbackCodes}
 use Rattle.runs.specs.declared.shapes.ShapeCodes.{ShapeCodes}
-use Rattle.runs.specs.declared.paths.PathRead.{PathRead}
+use Rattle.runs.specs.declared.paths.PathCodes.{PathCodes}
 use Rattle.runs.specs.Parser.{Parser, _then_, done}
 use Rattle.runs.specs.Fields.{number, upTo, f32, numberIf, byteIf, f32If}
 
--- "a count above 4,096 of points or legs" is malformed
+-- "a count above 4,096 of points" is malformed
 abbrev pub count : Parser ℕ
 count = upTo 4096
 
@@ -84,30 +83,10 @@ blankPathPoint = record { x = f32-0; y = f32-0; bend = f32-0; «x_mod» = blankM
 abbrev pub pathPoints : ℕ → Parser (List PathPointCodes)
 pathPoints = kept blankPathPoint pathPoint
 
--- n floats
-unfoldable pub floats : ℕ → Parser (List Float)
-floats zero = done []
-floats (suc n) = floats n then λ l. f32 then λ x. done (l ++ (x ∷ []))
-
--- legs = count leg..
-unfoldable pub list : Parser (List Float)
-list = count then λ n. floats n
-
-pub record PathCodes : Type 0 where
-  pub points : List PathPointCodes
-  pub count : ℕ
-  pub closed : ℕ
-  pub legs : List Float
-
--- path = count closed ppoint.. legs
+-- path = count closed ppoint..
 unfoldable pub path : Parser PathCodes
 path =
     count then λ n.
     number then λ closed.
     pathPoints n then λ points.
-    list then λ legs.
-    done (record { points = points; count = n; closed = closed; legs = legs })
-
--- how a program says it: the legs are the first `len` of a buffer
-abbrev pub pathRead : PathRead → List Float → PathCodes
-pathRead r buffer = record { points = r .points; count = r .count; closed = r .closed; legs = take (r .len) buffer }
+    done (record { points = points; count = n; closed = closed })

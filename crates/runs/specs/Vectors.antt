@@ -11,7 +11,7 @@ use Rattle.number.specs.Read.{leading, numberOf, shortest, judged, readFrom, re
 use Rattle.runs.specs.Parser.{read, malformed, after}
 use Rattle.runs.specs.Fields.{number, below, f32, numberIf, byteIf, f32If}
 use Rattle.runs.specs.Records.{rate, span, smooth, settings}
-use Rattle.runs.specs.Curves.{kept, list, modulation, blankMod, point, blankPoint, loopback, shape}
+use Rattle.runs.specs.Curves.{kept, modulation, blankMod, point, blankPoint, loopback, shape, pathPoint, blankPathPoint, path}
 
 -- numbers as bytes, one after the other
 bytes : List ℕ → List ℕ
@@ -60,7 +60,19 @@ shape-read : shape (bytes (1 ∷ one ∷ one ∷ 0 ∷ 1 ∷ 1 ∷ 3 ∷ one ∷
 unfolding bytes one encoded groups readAt readFrom leading judged shortest numberOf after number below Read.below f32 numberIf byteIf f32If modulation point kept loopback shape ofBits
 shape-read = refl
 
--- a bus of 256, an f32 of 33 bits, and 4,097 floats are too large
+-- a closed path of one point at 1, 0 with the bend 1, its y moved by bus 3 at a depth of 1; nothing more is read
+path-read : path (bytes (1 ∷ 1 ∷ one ∷ 0 ∷ one ∷ 0 ∷ 1 ∷ 3 ∷ one ∷ 5 ∷ [])) 0
+    ≡ read
+    (record {
+      points = record { x = f32-1; y = f32-0; bend = f32-1; «x_mod» = blankMod; «y_mod» = record { code = 1; bus = 3; depth = f32-1 } } ∷ replicate 63 blankPathPoint;
+      count = 1;
+      closed = 1;
+    })
+    21
+unfolding bytes one encoded groups readAt readFrom leading judged shortest numberOf after number below Read.below f32 byteIf f32If modulation pathPoint kept path ofBits
+path-read = refl
+
+-- a bus of 256, an f32 of 33 bits, and 4,097 points are too large
 large-bus : modulation (bytes (1 ∷ 256 ∷ 0 ∷ [])) 0 ≡ malformed
 unfolding bytes encoded groups readAt readFrom leading judged shortest numberOf after number below Read.below byteIf modulation
 large-bus = refl
@@ -69,9 +81,9 @@ large-float : f32 (bytes (2 ^ 32 ∷ [])) 0 ≡ malformed
 unfolding bytes encoded groups readAt readFrom leading judged shortest numberOf after below Read.below f32
 large-float = refl
 
-many-floats : list (bytes (4097 ∷ [])) 0 ≡ malformed
-unfolding bytes encoded groups readAt readFrom leading judged shortest numberOf after below Read.below list
-many-floats = refl
+many-points : path (bytes (4097 ∷ [])) 0 ≡ malformed
+unfolding bytes encoded groups readAt readFrom leading judged shortest numberOf after below Read.below path
+many-points = refl
 
 -- what stands past the 64th is read and not kept
 past-the-array : kept 0 number 66 (replicate 64 5 ++ 6 ∷ 7 ∷ 8 ∷ []) 0 ≡ read (replicate 64 5) 66

@@ -3,7 +3,6 @@
 // at the end, whether all was well formed. `specs/Parser.antt` says how readings follow each other, `specs/Fields.antt` what the fields are,
 // and `specs/Records.antt` and `specs/Curves.antt` what they make.
 mod fields;
-mod lists;
 mod paths;
 mod records;
 mod shapes;
@@ -14,6 +13,7 @@ pub use fields::Place;
 pub use fields::read_below;
 pub use fields::read_f32;
 pub use fields::read_number;
+pub use paths::PathCodes;
 pub use paths::PathRead;
 pub use paths::read_path;
 pub use records::RestartRead;

@@ -1,14 +1,12 @@
 // Paths.
 ghost use mathlib.Core.Path.{_≡_};
-ghost use Prim.Native.Nat.{_≤_};
-ghost use lib.ListN.{length, replicate};
+ghost use lib.ListN.{replicate};
 ghost use Rattle.runs.specs.Parser.{Reads};
-ghost use Rattle.runs.specs.Curves.{pathPoint, pathPoints, blankPathPoint, path, pathRead};
+ghost use Rattle.runs.specs.Curves.{pathPoint, pathPoints, blankPathPoint, path};
 use super::fields::Place;
 use super::fields::read_below;
 use super::fields::read_f32;
 use super::fields::read_number;
-use super::lists::read_list;
 use super::shapes::read_mod;
 use curves::ModCodes;
 use curves::PathPointCodes;
@@ -24,12 +22,15 @@ pub struct PathPointsRead {
     pub next: Place,
 }
 
-// A path of `count` points, of which the array has the first 64, and with `len` legs, which are in a buffer of the caller's.
-pub struct PathRead {
+// A path of `count` points, of which the array has the first 64.
+pub struct PathCodes {
     pub points: [PathPointCodes; MAX_POINTS],
     pub count: usize,
     pub closed: u64,
-    pub len: usize,
+}
+
+pub struct PathRead {
+    pub value: PathCodes,
     pub next: Place,
 }
 
@@ -94,22 +95,20 @@ fn read_path_points(run: &[u8], from: Place, count: usize) -> PathPointsRead
     PathPointsRead { value: kept, next }
 }
 
-// Reads a path, with its legs into the front of `buffer`.
-pub fn read_path(run: &[u8], from: Place, buffer: &mut [f32]) -> PathRead
-    requires { ⌜ 4096 ≤ length (now buffer) ⌝ }
-    ensures { λ r. ⌜ (Reads (path (now (run .entry))) from (pathRead r (now (buffer .exit))) (r .next)) × (r .len ≤ 4096) ⌝ }
+pub fn read_path(run: &[u8], from: Place) -> PathRead
+    ensures { λ r. ⌜ Reads (path (now (run .entry))) from (r .value) (r .next) ⌝ }
 {
     let count = read_below(run, from, 4097);
     let closed = read_number(run, count.next);
     let points = read_path_points(run, closed.next, count.value as usize);
-    let legs = read_list(run, points.next, buffer);
     let kept = points.value;
-    let next = legs.next;
+    let next = points.next;
     PathRead {
-        points: kept,
-        count: count.value as usize,
-        closed: closed.value,
-        len: legs.len,
+        value: PathCodes {
+            points: kept,
+            count: count.value as usize,
+            closed: closed.value,
+        },
         next,
     }
 }

@@ -1,17 +1,17 @@
 -- The curves of a slot can be searched, and its loopback point lies from 0 to 1: of every shape and path that accepted calls make, at finite bus values, and of a new slot. Assumes nothing.
 use mathlib.Core.Path.{sym, subst}
-use mathlib.Core.Bool.{Bool, true, false, cond}
+use mathlib.Core.Bool.{Bool}
 use mathlib.Core.List.{List}
 use Prim.Native.Nat.{ℕ, zero, suc, _≤_, _<_, min}
 use native.Mathlib.Nat.{min-le-right}
 use native.Mathlib.Omega.{arith}
 use lib.Dec.{T, lit≤}
 use lib.ListN.{getD, replicate, getD-replicate}
-use lib.Ieee.{Float, nan, binary32, fits, le, lt, ofBits}
+use lib.Ieee.{Float, nan, binary32, fits, ofBits}
 use lib.Ieee.Fits.{add-fits, fits-widens}
 use lib.Ieee.Scale.{finite}
-use Rattle.floatlaws.specs.Numbers.{Between, f32-0, f32-1, f32-2}
-use Rattle.floatlaws.specs.Extrema.{clampOf}
+use Rattle.floatlaws.specs.Numbers.{f32-0, f32-1}
+use Rattle.floatlaws.proofs.Extrema.{clamp-fits}
 use Rattle.listlaws.proofs.Tabulation.{getD-padded}
 use Rattle.points.specs.Modulation.{FiniteBuses}
 use Rattle.points.proofs.Offsets.{moved-number}
@@ -25,8 +25,8 @@ use Rattle.shape.proofs.Modulation.{modulated-ascends, modulated-x}
 use Rattle.shape.proofs.Accepted as shapes
 use Rattle.path.specs.declared.Path.{Path}
 use Rattle.path.specs.declared.PathPoint.{PathPoint}
-use Rattle.path.specs.Paths.{leg, pathOf, defaultPath}
-use Rattle.path_segments.specs.Times.{segmentsOf, Legs}
+use Rattle.path.specs.Paths.{pathOf, defaultPath}
+use Rattle.path.proofs.PathLegs.{legs-in}
 use Rattle.path_segments.proofs.AcceptedPath as paths
 use Rattle.position.specs.declared.place.LoopPoint.the-variants as LoopPoint
 use Rattle.reach.specs.Bounds.{LoopIn}
@@ -46,15 +46,6 @@ searchable-by shape path buses hs hp up times LfoType.SampleAndHold = tt
 
 -- ---- the loopback point
 
-clamp-fits : (x lo hi : Float) → T (fits binary32 x) → T (fits binary32 lo) → T (fits binary32 hi) → T (fits binary32 (clampOf x lo hi))
-unfolding clampOf
-clamp-fits x lo hi f g h = go (lt x lo) (lt hi x)
-  where
-    go : (p r : Bool) → T (fits binary32 (cond p lo (cond r hi x)))
-    go true r = g
-    go false true = h
-    go false false = f
-
 ends-fit : T (fits binary32 f32-0) × T (fits binary32 f32-1)
 unfolding ofBits fits
 ends-fit = (tt, tt)
@@ -62,7 +53,7 @@ ends-fit = (tt, tt)
 floor-fits : (points : List Point) (buses : List Float) (i : ℕ) → T (fits binary32 (floorAt points buses i))
 unfolding floorAt
 floor-fits points buses zero = ends-fit .0
-floor-fits points buses (suc i) = clamp-fits _ _ _ (add-fits binary32 _ _) (floor-fits points buses i) (ends-fit .1)
+floor-fits points buses (suc i) = clamp-fits binary32 _ _ _ (add-fits binary32 _ _) (floor-fits points buses i) (ends-fit .1)
 
 -- a moved point is an f32 from 0 to 1
 point-in : (points : List Point) (buses : List Float) (n : ℕ) → NumbersX points buses n → (i : ℕ) → i < n → LoopIn (LoopPoint.At (getD (modulatedOf points n buses .xs) i nan))
@@ -87,9 +78,9 @@ loop-by shape path buses number h LfoType.SampleAndHold = tt
 
 -- ---- accepted curves
 
-pub accepted-path : (points : List PathPoint) (count : ℕ) (closed : Bool) (legs : List Float) → Legs legs (segmentsOf (min count 64) closed) → PathUp (pathOf points count closed legs)
+pub accepted-path : (points : List PathPoint) (count : ℕ) (closed : Bool) → PathUp (pathOf points count closed)
 unfolding pathOf
-accepted-path points count closed legs accepted = paths.accepted-ascends (min count 64) closed (min-le-right count 64) legs accepted
+accepted-path points count closed = paths.accepted-ascends (min count 64) closed (min-le-right count 64) _ (legs-in _ _ _)
 
 module _ (points : List Point) (count : ℕ) (accepted : (k : ℕ) → k < min count 64 → FinitePoint (getD points k noPoint)) (loopback : Loopback) (buses : List Float) (values : FiniteBuses buses) where
   pub accepted-shape : ShapeUp (shapeOf points count loopback) buses
@@ -128,15 +119,9 @@ default-shape : ShapeUp defaultShape zeros
 unfolding defaultShape
 default-shape = modulated-ascends (defaultShape .points) zeros 3 default-x
 
-leg-between : Between f32-0 leg f32-2
-unfolding le ofBits
-leg-between = (tt, tt)
-
 default-path : PathUp defaultPath
-unfolding defaultPath segmentsOf
-default-path =
-    accepted-path _ 4 _ (replicate 64 leg)
-    (λ (k : ℕ) (h : k < 4). subst (λ (x : Float). Between f32-0 x f32-2) (sym (getD-replicate 64 k leg nan (omega arith))) leg-between)
+unfolding defaultPath
+default-path = accepted-path _ 4 _
 
 pub default-lengths : (defaultShape .len ≤ 64) × (defaultPath .len ≤ 64)
 unfolding defaultShape defaultPath pathOf

@@ -7,17 +7,9 @@ use Rattle.curves.proofs.path_of.Tie as tie
 returns : tie.Need-returns
 unfolding givenPath
 returns c = (
-  rw (
-    c .new .ensures .0,
-    c .before .before .is-yes .ensures,
-    c .before .before .before .given-legs .ensures,
-    c .before .before .before .before .given-path-points .ensures,
-    c .before .before .before .before .before .kept .ensures,
-  ),
+  rw (c .new .ensures .0, c .before .is-yes .ensures, c .before .before .given-path-points .ensures, c .before .before .before .kept .ensures),
   c .new .ensures .1,
 )
 
 pub path-of-spec : {M : Type 1} → statement M
-path-of-spec =
-    tie.close
-    (tie.spec (λ c κs. search needs) (λ c κs. search needs) (λ c κs. search needs) (λ c κs. search needs) (λ c κs. search needs) returns)
+path-of-spec = tie.close (tie.spec (λ c κs. search needs) (λ c κs. search needs) (λ c κs. search needs) (λ c κs. search needs) returns)

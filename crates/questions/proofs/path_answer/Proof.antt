@@ -1,6 +1,5 @@
 -- `path_answer` meets its contract. Assumes nothing.
 use borrow.Author.Needs.{needs}
-use borrow.Author.Tests.{ne-eqb, eq-eqb}
 use Rattle.questions.specs.Questions.{firstNo, pathQuestions}
 use Rattle.questions.proofs.Laws.{no, yes}
 use Rattle.questions.proofs.path_answer.Statement.{statement}
@@ -22,52 +21,21 @@ returns-3 c =
     rw (
       yes (q1 .before .path-known .ensures) (q1 .if1 .left),
       yes (q2 .before .path-finite .ensures) (q2 .if2 .left),
-      ← q1 .before .before .kept .ensures,
-      ← c .before .segment-count .ensures .0,
-      ne-eqb _ _ (c .if3 .taken),
+      no (c .before .path-on-paper .ensures) (c .if3 .taken),
     )
 
 returns-4 : tie.Need-returns-4
 unfolding firstNo pathQuestions
 returns-4 c =
-    let q3 = c .before .before in
-    let q2 = q3 .before .before in
+    let q2 = c .before .before in
     let q1 = q2 .before .before in
     rw (
       yes (q1 .before .path-known .ensures) (q1 .if1 .left),
       yes (q2 .before .path-finite .ensures) (q2 .if2 .left),
-      ← q1 .before .before .kept .ensures,
-      ← q3 .before .segment-count .ensures .0,
-      eq-eqb _ _ (q3 .if3 .left),
-      no (c .before .between-all .ensures) (c .if4 .taken),
-    )
-
-returns-5 : tie.Need-returns-5
-unfolding firstNo pathQuestions
-returns-5 c =
-    let q3 = c .before .before in
-    let q2 = q3 .before .before in
-    let q1 = q2 .before .before in
-    rw (
-      yes (q1 .before .path-known .ensures) (q1 .if1 .left),
-      yes (q2 .before .path-finite .ensures) (q2 .if2 .left),
-      ← q1 .before .before .kept .ensures,
-      ← q3 .before .segment-count .ensures .0,
-      eq-eqb _ _ (q3 .if3 .left),
-      yes (c .before .between-all .ensures) (c .if4 .left),
+      yes (c .before .path-on-paper .ensures) (c .if3 .left),
     )
 
 pub path-answer-spec : {M : Type 1} → statement M
 path-answer-spec =
     tie.close
-    (tie.spec
-    (λ c κs. search needs)
-    (λ c κs. search needs)
-    returns
-    (λ c κs. search needs)
-    returns-2
-    (λ c κs. search needs)
-    returns-3
-    (λ c κs. search needs)
-    returns-4
-    returns-5)
+    (tie.spec (λ c κs. search needs) returns (λ c κs. search needs) returns-2 (λ c κs. search needs) returns-3 returns-4)

@@ -21,7 +21,7 @@ together s s₀ buses buses₀ at y i r a b d e = rw (e, d, b, a)
 
 returns : tie.Need-returns
 returns c =
-    let a = c .before .before .before .before .before .before .before .before .before .args in
+    let a = c .before .before .before .before .before .before .before .before .args in
     together _ _ _ _ _ (a .y) (a .i) _ (c .before .before .before .before .buses-of .ensures) (c .before .before .before .path-from .ensures .0) (c .before .modulated .ensures) (c .place .ensures)
 
 pub path-place-spec : {M : Type 1} → statement M

@@ -10,7 +10,7 @@ use Rattle.exports.proofs.curves.path_value.Tie as tie
 
 returns : tie.Need-returns
 returns c =
-    let a = c .before .before .before .before .before .before .args in
+    let a = c .before .before .before .before .before .args in
     c .xy-float .ensures ∙ ap (λ (r : Xy). xyFloat r (a .which)) (c .before .value .ensures ∙ ap (λ (p : Path). pathValue p (a .t)) (c .before .before .path-from .ensures .0))
 
 pub path-value-spec : {M : Type 1} → statement M

@@ -3,7 +3,8 @@ use native.Mathlib.Omega.{arith}
 use borrow.Author.Needs.{needs}
 use denote.Ref.{now}
 use lib.ListN.{length-take}
-use Rattle.oracle.proofs.Playing.{how-many-small, block-turned}
+use Rattle.oracle.proofs.Turning.{how-many-small}
+use Rattle.oracle.proofs.Playing.{block-turned}
 use Rattle.oracle.proofs.block.play.Statement.{statement}
 use Rattle.oracle.proofs.block.play.Tie as tie
 

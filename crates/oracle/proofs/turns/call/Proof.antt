@@ -1,55 +1,71 @@
 -- `call` meets its contract. Assumes nothing.
-use mathlib.Core.Path.{ap, _∙_}
+use Prim.Native.Nat.{ℕ}
+use mathlib.Core.Path.{_≡_, refl, ap, _∙_}
+use mathlib.Core.Bool.{true}
+use mathlib.Core.List.{List}
 use borrow.Author.Needs.{needs}
 use denote.Ref.{now}
 use lib.ListN.{getD}
-use Rattle.runs.specs.Parser.{onward}
-use Rattle.oracle.specs.Asked.{none, byTag}
-use Rattle.oracle.specs.Promises.{givenOf}
+use Rattle.runs.specs.declared.fields.Place.{Place}
+use Rattle.runs.specs.Parser.{onward, Reads}
+use Rattle.runs.specs.Fields.{number}
+use Rattle.player.specs.declared.Player.{Player}
+use Rattle.oracle.specs.declared.Turn.{Turn}
+use Rattle.oracle.specs.Asked.{none, byTag, asked}
+use Rattle.oracle.specs.Promises.{givenOf, Turns, TurnsOn}
 use Rattle.oracle.proofs.Readings.{tag-then}
 use Rattle.oracle.proofs.Turning.{same-turns}
 use Rattle.oracle.proofs.turns.call.Statement.{statement}
 use Rattle.oracle.proofs.turns.call.Tie as tie
 
-block-turn-requires : tie.Need-block-turn-requires
-block-turn-requires c κs = search needs
+-- a call behind its tag
+tagged : (run : List ℕ) (at : ℕ) (p : Player) {tag : ℕ} {from : Place} → Reads (number run) (record { at = at; good = true }) tag from → (k : ℕ) → tag ≡ k
+    → {x : List ℕ} {place : ℕ} {t : Turn} {y : List ℕ} → TurnsOn (getD byTag k none) run from p x place t y → Turns run (givenOf p run (asked run at)) x place t y
+tagged run at p {from = from} r k e =
+    same-turns (λ most. ap (λ v. givenOf p run v most) (tag-then run at r ∙ ap (λ t. onward from (getD byTag t none run)) e))
 
 returns : tie.Need-returns
 unfolding byTag
 returns c =
     let n = c .before .before .before .before .before .before .before in
-    let s = n .before .before .before in
-    let a = s .args in
-    let run = now (a .run) in
-    let e = tag-then run (a .at) (n .read-number .ensures) in
-    let e′ = ap (λ t. onward (n .read-number .result .next) (getD byTag t none run)) (c .before .before .before .before .if1 .taken) in
-    same-turns (λ most. ap (λ v. givenOf (a .p) run v most) (e ∙ e′)) (c .before .before .block-turn .ensures)
+    let a = n .before .before .before .args in
+    tagged (now (a .run)) (a .at) (a .p) (n .read-number .ensures) 5 (c .before .before .before .before .if1 .taken) (c .before .before .block-turn .ensures)
+
+returns-2 : tie.Need-returns-2
+unfolding byTag
+returns-2 c =
+    let n = c .before .before .before .before .before .before .before .before .before in
+    let a = n .before .before .before .args in
+    tagged (now (a .run)) (a .at) (a .p) (n .read-number .ensures) 8 (c .before .before .before .before .if2 .taken) (c .before .before .legs-turn .ensures)
 
 reply-of-requires : tie.Need-reply-of-requires
-reply-of-requires c κs = (c .before .before .before .before .before .before .before .pre, c .before .if1 .left)
+reply-of-requires c κs =
+    let i = c .before .before .before in
+    (i .before .before .before .before .before .before .pre, i .if1 .left, c .before .if2 .left)
 
 write-reply-requires : tie.Need-write-reply-requires
 write-reply-requires c κs = let r = c .reply-of .ensures in (r .long, r .short, r .valid)
 
-returns-2 : tie.Need-returns-2
-returns-2 c =
-    let n = c .before .before .before .before .before .before .before .before in
-    let s = n .before .before .before in
-    let a = s .args in
+returns-3 : tie.Need-returns-3
+returns-3 c =
+    let n = c .before .before .before .before .before .before .before .before .before .before in
+    let a = n .before .before .before .args in
     let run = now (a .run) in
-    let e = tag-then run (a .at) (n .read-number .ensures) in
-    let given-is = c .before .before .before .reply-of .ensures .given-is in
-    same-turns (λ most. ap (λ v. givenOf (a .p) run v most) e ∙ given-is most) (c .before .before .write-reply .ensures run)
+    tagged run (a .at) (a .p) (n .read-number .ensures) _ refl
+    (same-turns (c .before .before .before .reply-of .ensures .given-is) (c .before .before .write-reply .ensures run))
 
 pub call-spec : {M : Type 1} → statement M
 call-spec =
     tie.close
     (tie.spec
     (λ c κs. search needs)
-    block-turn-requires
+    (λ c κs. search needs)
     (λ c. search needs)
     returns
+    (λ c κs. search needs)
+    (λ c. search needs)
+    returns-2
     reply-of-requires
     write-reply-requires
     (λ c. search needs)
-    returns-2)
+    returns-3)

@@ -41,7 +41,7 @@ returns-8 c =
     let a = s .args in
     let k = c .before .match .rest in
     let l = k .0 .0 .0 in
-    let none-is = other-tag (a .tag) (l .0 .0 .0 .1) (l .0 .0 .1) (l .0 .1) (l .1) (k .0 .0 .1) (s .pre .1) (k .0 .1) (k .1) in
+    let none-is = other-tag (a .tag) (l .0 .0 .0 .1) (l .0 .0 .1) (l .0 .1) (l .1) (k .0 .0 .1) (s .pre .1) (k .0 .1) (k .1) (s .pre .2) in
     rw (c .malformed .ensures) (replies-none (now (a .run)) (a .p) _ (onward-none (now (a .run)) (a .from) (a .tag) none-is) (s .pre .0))
 
 pub reply-of-spec : {M : Type 1} → statement M

@@ -11,10 +11,10 @@ use Rattle.questions.proofs.curve_tests.path_finite.Statement.{statemen
 use Rattle.questions.proofs.curve_tests.path_finite.Tie as tie
 
 abbrev Inv-loop : tie.InvT-loop
-Inv-loop others count legs points n all₀ i₀ all i = (i ≤ n) × (n ≡ min count 64) × (all ≡ every (λ k. pathPointFinite (getD points k noPathPointCodes)) i)
+Inv-loop others count points n all₀ i₀ all i = (i ≤ n) × (n ≡ min count 64) × (all ≡ every (λ k. pathPointFinite (getD points k noPathPointCodes)) i)
 
 abbrev μ-loop : tie.MeasureT-loop
-μ-loop others count legs points n all₀ i₀ all i = n - i
+μ-loop others count points n all₀ i₀ all i = n - i
 
 loop-holds : tie.Need-loop-holds Inv-loop μ-loop
 unfolding every
@@ -25,10 +25,10 @@ loop-again c = let inv = c .before .before .before .loop .inv in (omega arith, i
 
 returns : tie.Need-returns Inv-loop μ-loop
 returns c =
-    let at = c .before .before .loop in
+    let at = c .before .loop in
     let inv = at .inv in
-    let e : at .i ≡ min (c .before .before .before .before .before .args .count) 64 = omega arith in
-    rw (inv .2, e, c .finite-all .ensures)
+    let e : at .i ≡ min (c .before .before .before .args .count) 64 = omega arith in
+    rw (inv .2, e)
 
 pub path-finite-spec : {M : Type 1} → statement M
 path-finite-spec =
@@ -44,5 +44,4 @@ path-finite-spec =
     (λ c. omega arith)
     (λ c. omega arith)
     loop-again
-    (λ c κs. search needs)
     returns)

@@ -1,5 +1,4 @@
 -- `read_f64` meets its contract. Assumes nothing.
-use mathlib.Core.Path.{refl}
 use borrow.Author.Needs.{needs}
 use Rattle.runs.specs.Fields.{f64}
 use Rattle.runs.proofs.Laws.{chain}

@@ -8,25 +8,13 @@ use Rattle.runs.proofs.paths.read_path.Tie as tie
 returns : tie.Need-returns
 unfolding path
 returns c =
-    let legs = c .before .before .before .before in
-    let points = legs .before .before in
+    let points = c .before .before in
     let closed = points .before in
-    let count = closed .before in (
-      chain _ (count .read-below .ensures .0)
-          (chain _ (closed .read-number .ensures)
-          (chain _ (points .read-path-points .ensures)
-          (chain _ (legs .read-list .ensures .0)
-          last))),
-      legs .read-list .ensures .1,
-    )
+    let count = closed .before in
+    chain _ (count .read-below .ensures .0)
+    (chain _ (closed .read-number .ensures)
+    (chain _ (points .read-path-points .ensures)
+    last))
 
 pub read-path-spec : {M : Type 1} → statement M
-read-path-spec =
-    tie.close
-    (tie.spec
-    (λ c κs. search needs)
-    (λ c κs. search needs)
-    (λ c κs. search needs)
-    (λ c κs. search needs)
-    (λ c. search needs)
-    returns)
+read-path-spec = tie.close (tie.spec (λ c κs. search needs) (λ c κs. search needs) (λ c κs. search needs) returns)

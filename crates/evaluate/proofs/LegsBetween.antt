@@ -1,0 +1,82 @@
+-- Every leg that is returned is the one between the points that were handed in. Assumes nothing.
+use Prim.Native.Nat.{ℕ, _+_, _%_, _<_, min}
+use mathlib.Core.Path.{_≡_, refl, subst}
+use mathlib.Core.Bool.{Bool, true, false, cond}
+use mathlib.Core.List.{List}
+use native.Mathlib.Nat.{lt-of-lt-of-le, mod-lt}
+use native.Mathlib.Omega.{arith}
+use borrow.Author.Tests.{eqb-true}
+use lib.Dec.{T, eqb}
+use lib.ListN.{getD}
+use lib.Ieee.{nan}
+use Rattle.floatlaws.specs.Numbers.{f32-0}
+use Rattle.floatlaws.proofs.Tests.{yes-so}
+use Rattle.listlaws.proofs.Tabulation.{getD-padded}
+use Rattle.leg.specs.Paper.{onPaper}
+use Rattle.leg.specs.Root.{LegBetween}
+use Rattle.leg.proofs.Coordinates.{paper-kept}
+use Rattle.leg.proofs.Range.{leg-between}
+use Rattle.path_segments.specs.Times.{segmentsOf}
+use Rattle.path_segments.proofs.AcceptedPath.{segments-le}
+use Rattle.path.specs.Paths.{clampedPathPoint, legAt, legsOf, pathOf, pathLegs}
+use Rattle.curves.specs.declared.PathPointCodes.{PathPointCodes}
+use Rattle.curves.specs.Given.{isYes, noPathPointCodes, pathPointOf, givenPath}
+use Rattle.curves.proofs.KeptPath.{kept-point}
+use Rattle.questions.specs.Questions.{firstNo, pathQuestions}
+use Rattle.questions.proofs.Facts.{path-accepted}
+use Rattle.questions.proofs.Laws.{and-true}
+use Rattle.evaluate.specs.declared.Legs.{Legs}
+use Rattle.evaluate.specs.Values.{refusedLegs, evaluatedLegs}
+use Rattle.evaluate.specs.Legs.{LegsBetween, LegLaw}
+
+module _ (points : List PathPointCodes) (count closed : ℕ) (accepted : firstNo (pathQuestions true points count closed) ≡ 0) where
+  abbrev len : ℕ
+  len = min count 64
+
+  abbrev n : ℕ
+  n = segmentsOf len (isYes closed)
+
+  abbrev at : ℕ → PathPointCodes
+  at k = getD points k noPathPointCodes
+
+  on : (k : ℕ) → k < len → T (onPaper (at k .x)) × T (onPaper (at k .y))
+  on k h = let a = and-true (onPaper (at k .x)) (onPaper (at k .y)) (path-accepted true points count closed accepted .points-on-paper k h) in (yes-so (a .0), yes-so (a .1))
+
+  -- a leg of the kept points is one of those handed in
+  leg : (j : ℕ) → j < n → let k = (j + 1) % len in LegBetween (at j .x) (at j .y) (at k .x) (at k .y) (legAt (givenPath points count closed .points) len j)
+  unfolding legAt clampedPathPoint pathPointOf
+  leg j h =
+      let J = lt-of-lt-of-le h (segments-le len (isYes closed)) in
+      let k = (j + 1) % len in
+      let K : k < len = mod-lt (j + 1) (omega arith) in
+      let a = on j J in
+      let b = on k K in
+      rw (kept-point points count closed j J, kept-point points count closed k K, paper-kept (at j .x) (a .0), paper-kept (at j .y) (a .1), paper-kept (at k .x) (b .0), paper-kept (at k .y) (b .1))
+      (leg-between (at j .x) (at j .y) (at k .x) (at k .y) (a .0) (a .1) (b .0) (b .1))
+
+  length-at : (j : ℕ) → j < n → getD (pathLegs (givenPath points count closed)) j nan ≡ legAt (givenPath points count closed .points) len j
+  unfolding pathLegs legsOf givenPath pathOf
+  length-at j h = getD-padded (legAt (givenPath points count closed .points) len) 64 f32-0 n j nan h
+
+  abbrev answered : Legs
+  answered = let p = givenPath points count closed in record { answer = 0; count = segmentsOf (p .len) (p .closed); lengths = pathLegs p }
+
+  answered-is : answered ≡ evaluatedLegs points count closed
+  unfolding evaluatedLegs
+  answered-is = rw accepted refl
+
+  between : LegsBetween points count closed (evaluatedLegs points count closed)
+  unfolding givenPath pathOf
+  between = subst (LegsBetween points count closed) answered-is (record { count-is = refl; each = λ j h. rw (length-at j h) (leg j h) })
+
+-- an answer of 0 is the questions' own
+told : (points : List PathPointCodes) (count closed : ℕ) → evaluatedLegs points count closed .answer ≡ 0 → firstNo (pathQuestions true points count closed) ≡ 0
+unfolding evaluatedLegs
+told points count closed = let a = firstNo (pathQuestions true points count closed) in go a (eqb a 0) _ refl
+  where
+    go : (a : ℕ) (b : Bool) (r : Legs) → eqb a 0 ≡ b → cond b r (refusedLegs a) .answer ≡ 0 → a ≡ 0
+    go a true r e h = eqb-true a 0 e
+    go a false r e h = h
+
+pub leg-law : LegLaw
+leg-law points count closed h = between points count closed (told points count closed h)
