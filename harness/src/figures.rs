@@ -39,6 +39,10 @@ pub struct Figures {
     /// Accepted paths with a coordinate of −0, with one of 1, with a leg that is not the source's, with a dropped point off the paper; refused ones that are
     /// off it in x alone, in y alone, at the 64th of more points alone.
     paths: [u64; 7],
+    /// Of paths that are off the paper at one point alone, by its place among those that are kept: off it in x, in y.
+    places: Vec<[u64; 2]>,
+    /// Paths by how many points they have, 70 or more in the last place.
+    counts: Vec<u64>,
     /// Frames by kind and mode.
     kinds: [[u64; 3]; 5],
     /// Frames of shapes and paths by direction.
@@ -160,6 +164,9 @@ impl Figures {
             |p: &PathPoint| !questions::on_paper(p.y),
         );
         let off = |p: &PathPoint| x_off(p) || y_off(p);
+        self.places.resize(MAX_POINTS, [0; 2]);
+        self.counts.resize(71, 0);
+        self.counts[path.points.len().min(70)] += 1;
         let has = |c: f32| {
             kept.iter()
                 .any(|p| p.x == c.to_bits() || p.y == c.to_bits())
@@ -175,6 +182,11 @@ impl Figures {
             count(&mut self.paths[5], !kept.iter().any(x_off), 1);
             let last = !dropped.is_empty() && !kept[..MAX_POINTS - 1].iter().any(off);
             count(&mut self.paths[6], last, 1);
+            let places: Vec<usize> = (0..kept.len()).filter(|i| off(&kept[*i])).collect();
+            if let [i] = places[..] {
+                count(&mut self.places[i][0], x_off(&kept[i]), 1);
+                count(&mut self.places[i][1], y_off(&kept[i]), 1);
+            }
         }
     }
 
@@ -260,6 +272,14 @@ impl fmt::Display for Figures {
         writeln!(
             f,
             "  paths: coordinate −0 {minus}, 1 {one}, leg not the source's {other}, dropped point off the paper {dropped}; refused by x alone {x}, by y alone {y}, by the 64th of more points alone {last}"
+        )?;
+        let least = |side: usize| self.places.iter().map(|p| p[side]).min().unwrap_or(0);
+        writeln!(
+            f,
+            "  off the paper at one point alone, of the 64 places the least often: x {}, y {}; of 0 to 70 points the least often {}",
+            least(0),
+            least(1),
+            self.counts.iter().min().unwrap_or(&0)
         )?;
         writeln!(f, "  frames by kind (Free, Restart, One-shot):")?;
         let kinds = ["Drawn", "Path", "Lorenz", "Rössler", "Sample-and-Hold"];
