@@ -6,25 +6,19 @@ use mathlib.Core.List.{List}
 use native.Mathlib.Nat.{lt-of-lt-of-le, mod-lt}
 use native.Mathlib.Omega.{arith}
 use borrow.Author.Tests.{eqb-true}
-use lib.Dec.{T, eqb}
+use lib.Dec.{eqb}
 use lib.ListN.{getD}
 use lib.Ieee.{nan}
-use Rattle.floatlaws.specs.Numbers.{f32-0}
-use Rattle.floatlaws.proofs.Tests.{yes-so}
-use Rattle.listlaws.proofs.Tabulation.{getD-padded}
-use Rattle.leg.specs.Paper.{onPaper}
 use Rattle.leg.specs.Root.{LegBetween}
-use Rattle.leg.proofs.Coordinates.{paper-kept}
-use Rattle.leg.proofs.Range.{leg-between}
 use Rattle.path_segments.specs.Times.{segmentsOf}
 use Rattle.path_segments.proofs.AcceptedPath.{segments-le}
-use Rattle.path.specs.Paths.{clampedPathPoint, legAt, legsOf, pathOf, pathLegs}
+use Rattle.path.specs.Paths.{pathOf, pathLegs}
+use Rattle.path.proofs.PathLegs.{legs-between}
 use Rattle.curves.specs.declared.PathPointCodes.{PathPointCodes}
-use Rattle.curves.specs.Given.{isYes, noPathPointCodes, pathPointOf, givenPath}
-use Rattle.curves.proofs.KeptPath.{kept-point}
+use Rattle.curves.specs.Given.{isYes, noPathPointCodes, givenPath}
 use Rattle.questions.specs.Questions.{firstNo, pathQuestions}
 use Rattle.questions.proofs.Facts.{path-accepted}
-use Rattle.questions.proofs.Laws.{and-true}
+use Rattle.questions.proofs.KeptPoints.{kept-x, kept-y, kept-on-paper}
 use Rattle.evaluate.specs.declared.Legs.{Legs}
 use Rattle.evaluate.specs.Values.{refusedLegs, evaluatedLegs}
 use Rattle.evaluate.specs.Legs.{LegsBetween, LegLaw}
@@ -39,24 +33,16 @@ module _ (points : List PathPointCodes) (count closed : ℕ) (accepted : firstNo
   abbrev at : ℕ → PathPointCodes
   at k = getD points k noPathPointCodes
 
-  on : (k : ℕ) → k < len → T (onPaper (at k .x)) × T (onPaper (at k .y))
-  on k h = let a = and-true (onPaper (at k .x)) (onPaper (at k .y)) (path-accepted true points count closed accepted .points-on-paper k h) in (yes-so (a .0), yes-so (a .1))
-
-  -- a leg of the kept points is one of those handed in
-  leg : (j : ℕ) → j < n → let k = (j + 1) % len in LegBetween (at j .x) (at j .y) (at k .x) (at k .y) (legAt (givenPath points count closed .points) len j)
-  unfolding legAt clampedPathPoint pathPointOf
+  -- a leg between kept points is the one between those handed in
+  leg : (j : ℕ) → j < n → let k = (j + 1) % len in LegBetween (at j .x) (at j .y) (at k .x) (at k .y) (getD (pathLegs (givenPath points count closed)) j nan)
+  unfolding givenPath pathOf
   leg j h =
       let J = lt-of-lt-of-le h (segments-le len (isYes closed)) in
       let k = (j + 1) % len in
       let K : k < len = mod-lt (j + 1) (omega arith) in
-      let a = on j J in
-      let b = on k K in
-      rw (kept-point points count closed j J, kept-point points count closed k K, paper-kept (at j .x) (a .0), paper-kept (at j .y) (a .1), paper-kept (at k .x) (b .0), paper-kept (at k .y) (b .1))
-      (leg-between (at j .x) (at j .y) (at k .x) (at k .y) (a .0) (a .1) (b .0) (b .1))
-
-  length-at : (j : ℕ) → j < n → getD (pathLegs (givenPath points count closed)) j nan ≡ legAt (givenPath points count closed .points) len j
-  unfolding pathLegs legsOf givenPath pathOf
-  length-at j h = getD-padded (legAt (givenPath points count closed .points) len) 64 f32-0 n j nan h
+      let a = path-accepted true points count closed accepted in
+      rw (← kept-x true points count closed a j J, ← kept-y true points count closed a j J, ← kept-x true points count closed a k K, ← kept-y true points count closed a k K)
+      (legs-between (givenPath points count closed) (kept-on-paper true points count closed a) j h)
 
   abbrev answered : Legs
   answered = let p = givenPath points count closed in record { answer = 0; count = segmentsOf (p .len) (p .closed); lengths = pathLegs p }
@@ -67,7 +53,7 @@ module _ (points : List PathPointCodes) (count closed : ℕ) (accepted : firstNo
 
   between : LegsBetween points count closed (evaluatedLegs points count closed)
   unfolding givenPath pathOf
-  between = subst (LegsBetween points count closed) answered-is (record { count-is = refl; each = λ j h. rw (length-at j h) (leg j h) })
+  between = subst (LegsBetween points count closed) answered-is (record { count-is = refl; each = leg })
 
 -- an answer of 0 is the questions' own
 told : (points : List PathPointCodes) (count closed : ℕ) → evaluatedLegs points count closed .answer ≡ 0 → firstNo (pathQuestions true points count closed) ≡ 0

@@ -25,6 +25,7 @@ use Rattle.points.specs.Modulation.{FiniteMod}
 use Rattle.shape.specs.declared.Loopback.the-variants as Loopback
 use Rattle.shape.specs.Points.{blank, noPoint, FinitePoint}
 use Rattle.shape.specs.Shapes.{within}
+use Rattle.leg.specs.Paper.{onPaper}
 use Rattle.settings.specs.Choices.{feelAt, yesNoAt}
 use Rattle.settings.specs.Divisions.{divisionAt}
 use Rattle.settings.specs.Times.{rates, syncedRate, hzRate, rateAt, scales, scaleAt}
@@ -291,7 +292,7 @@ shape-accepted others points count loopback h =
 
 pub record PathAccepted (others : Bool) (points : List PathPointCodes) (count : ℕ) : Type 0 where
   pub others-finite : others ≡ true
-  pub points-on-paper : (k : ℕ) → k < min count 64 → pathPointOnPaper (getD points k noPathPointCodes) ≡ true
+  pub points-on-paper : (k : ℕ) → k < min count 64 → let c = getD points k noPathPointCodes in T (onPaper (c .x)) × T (onPaper (c .y))
 
 pub path-accepted : (others : Bool) (points : List PathPointCodes) (count closed : ℕ) → firstNo (pathQuestions others points count closed) ≡ 0 → PathAccepted others points count
 unfolding pathQuestions
@@ -301,5 +302,8 @@ path-accepted others points count closed h =
     let q11 = passed 10 _ _ (q2 .1) in
     record {
       others-finite = and-true (every (λ k. pathPointFinite (getD points k noPathPointCodes)) (min count 64)) others (q2 .0) .1;
-      points-on-paper = λ k l. every-so _ _ (q11 .0) k l;
+      points-on-paper = λ k l.
+          let c = getD points k noPathPointCodes in
+          let both = and-true (onPaper (c .x)) (onPaper (c .y)) (every-so (λ i. pathPointOnPaper (getD points i noPathPointCodes)) _ (q11 .0) k l) in
+          (yes-so (both .0), yes-so (both .1));
     }

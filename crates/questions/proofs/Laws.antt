@@ -1,6 +1,6 @@
 -- Laws of the tests, for the proofs of the functions. Assumes nothing.
 use Prim.Native.Nat.{ℕ, _+_, _≤_}
-use mathlib.Core.Path.{_≡_, refl, sym, _∙_, ap}
+use mathlib.Core.Path.{_≡_, refl, sym, _∙_}
 use mathlib.Core.Bool.{Bool, true, false, not, _&&_, _||_, cond, false≢true}
 use native.Mathlib.Numerals.{add-one}
 use lib.Dec.{leb}
@@ -25,9 +25,6 @@ finite-is (fin s m e) = refl
 pub every-more : (t : ℕ → Bool) (i : ℕ) {all next : Bool} → all ≡ every t i → next ≡ t i → (all && next) ≡ every t (i + 1)
 unfolding every
 every-more t i a b = rw (a, b, add-one)
-
-pub every-at : (t : ℕ → Bool) {i n : ℕ} {all : Bool} → all ≡ every t i → i ≡ n → all ≡ every t n
-every-at t a e = a ∙ ap (every t) e
 
 -- ---- a question's test, by the branch that was taken
 

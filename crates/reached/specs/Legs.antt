@@ -1,23 +1,17 @@
 -- The path of a player, for every player that calls have reached: where its points are, its legs and its times. Assumes nothing.
 use Prim.Native.Nat.{ℕ, _+_, _%_, _<_}
 use mathlib.Core.Path.{_≡_}
-use lib.Dec.{T}
 use lib.ListN.{getD}
 use lib.Ieee.{nan}
-use Rattle.leg.specs.Paper.{onPaper}
 use Rattle.leg.specs.Root.{LegBetween}
 use Rattle.path_segments.specs.Times.{segmentsOf, timesOf}
-use Rattle.path.specs.declared.PathPoint.{PathPoint}
 use Rattle.path.specs.declared.Path.{Path}
-use Rattle.path.specs.Paths.{noPathPoint, pathLegs}
+use Rattle.path.specs.Paths.{noPathPoint, PointOnPaper, pathLegs}
 use Rattle.player.specs.declared.Player.{Player}
 use Rattle.reached.specs.Traces.{History}
 
--- "a multiple of 1/4096 within 0 to 1", each of its two coordinates
-abbrev pub PointOnPaper : PathPoint → Type 0
-PointOnPaper q = T (onPaper (q .x)) × T (onPaper (q .y))
-
 pub record Measured (path : Path) : Type 0 where
+  -- "a multiple of 1/4096 within 0 to 1"
   pub points-on-paper : (k : ℕ) → k < path .len → PointOnPaper (getD (path .points) k noPathPoint)
   -- "the f32 nearest to the root of the sum of squares", from each point to the next, and of a closed path from the last to the first
   pub legs-nearest : (j : ℕ) → j < segmentsOf (path .len) (path .closed)
