@@ -1,7 +1,7 @@
 -- What a trace's calls wrote is what the definitions of crate `restart` say of its list of calls. Assumes nothing.
 use Prim.Native.Nat.{ℕ}
 use mathlib.Core.Path.{_≡_, refl, sym, ap, _∙_}
-use mathlib.Core.Bool.{cond}
+use mathlib.Core.Bool.{Bool, true, false, cond}
 use mathlib.Core.List.{List, [], _∷_}
 use lib.Dec.{eqb}
 use lib.ListN.{take}
@@ -61,12 +61,18 @@ blocks-by restart t e g = rw (e, g) refl
 ends-by : {A : Type 0} {a a′ : ℕ} {h h′ : List A} → a ≡ a′ → h ≡ h′ → cond (eqb a 0) [] h ≡ cond (eqb a′ 0) [] h′
 ends-by e g = rw (e, g) refl
 
+-- a phase read goes on, accepted or refused
+same-either : {A : Type 0} {a : A} (t : Bool) → a ≡ cond t a a
+same-either true = refl
+same-either false = refl
+
 pub written-heard : {p q : Player} {cs : List Call} (side : Side) (l : Trace p cs q) → written side l ≡ heard side (stateOf p) cs
 unfolding written heard
 written-heard side (none p) = refl
 written-heard side (sets p c cs q r e m l) =
     ends-by (m .answer-is) (written-heard side l ∙ ap (λ (s : State). heard side s cs) (m .state-is)) ∙ sym (set-heard side (stateOf p) c cs e)
-written-heard side (reads p t cs q r m l) = written-heard side l ∙ ap (λ (s : State). heard side s cs) (sym (phase-keeps (stateOf p) t))
+written-heard side (reads p t cs q r m l) =
+    written-heard side l ∙ ap (λ (s : State). heard side s cs) (sym (phase-keeps (stateOf p) t)) ∙ same-either (accepts (stateOf p) (phase t))
 written-heard side (plays p t n restart x y cs q r x′ y′ m l) =
     frames-by restart n (m .answer-is) (read-is side p t n restart x y r x′ y′ m) (written-heard side l ∙ ap (λ (s : State). heard side s cs) (m .state-is))
 
@@ -75,6 +81,7 @@ unfolding transports window
 transports-window (none p) = refl
 transports-window (sets p c cs q r e m l) =
     ends-by (m .answer-is) (transports-window l ∙ ap (λ (s : State). window s cs) (m .state-is)) ∙ sym (set-window (stateOf p) c cs e)
-transports-window (reads p t cs q r m l) = transports-window l ∙ ap (λ (s : State). window s cs) (sym (phase-keeps (stateOf p) t))
+transports-window (reads p t cs q r m l) =
+    transports-window l ∙ ap (λ (s : State). window s cs) (sym (phase-keeps (stateOf p) t)) ∙ same-either (accepts (stateOf p) (phase t))
 transports-window (plays p t n restart x y cs q r x′ y′ m l) =
     blocks-by restart t (m .answer-is) (transports-window l ∙ ap (λ (s : State). window s cs) (m .state-is))
