@@ -10,7 +10,7 @@ use Rattle.settings.specs.declared.record.TransportCodes.{TransportCodes}
 use Rattle.questions.specs.declared.RestartCodes.{RestartCodes}
 use Rattle.calls.specs.State.{State}
 use Rattle.calls.specs.Blocks.{pendingOf}
-use Rattle.calls.specs.Calls.{Call, settings, shape, path, bus, phase, block, accepts, step}
+use Rattle.calls.specs.Calls.{Call, settings, shape, path, bus, phase, block, isEdit, byBlock, accepts, step}
 use Rattle.calls.proofs.Answers.{phase-keeps}
 use Rattle.player.specs.declared.Player.{Player}
 use Rattle.player.specs.declared.Played.{Played}
@@ -29,23 +29,22 @@ read-is y-side p t n restart x y r x′ y′ m = ap (take n) (m .y-is)
 
 -- ---- a call that sets something ends what is heard where it is accepted
 
+set-ends : {A : Type 0} (c : Call) (later : List A) (f : TransportCodes → ℕ → RestartCodes → List Float → List Float → List A) → Sets c
+    → byBlock (cond (isEdit c) [] later) c f ≡ []
+set-ends (settings c) later f e = refl
+set-ends (shape points n loopback) later f e = refl
+set-ends (path points n closed) later f e = refl
+set-ends (bus k z) later f e = refl
+set-ends (phase t) later f e = absurd e
+set-ends (block t n restart x y) later f e = absurd e
+
 set-heard : (side : Side) (s : State) (c : Call) (cs : List Call) → Sets c → heard side s (c ∷ cs) ≡ cond (accepts s c) [] (heard side (step s c) cs)
 unfolding heard
-set-heard side s (settings c) cs e = refl
-set-heard side s (shape points n loopback) cs e = refl
-set-heard side s (path points n closed) cs e = refl
-set-heard side s (bus k z) cs e = refl
-set-heard side s (phase t) cs e = absurd e
-set-heard side s (block t n restart x y) cs e = absurd e
+set-heard side s c cs e = ap (λ (l : List Float). cond (accepts s c) l (heard side (step s c) cs)) (set-ends c _ _ e)
 
 set-window : (s : State) (c : Call) (cs : List Call) → Sets c → window s (c ∷ cs) ≡ cond (accepts s c) [] (window (step s c) cs)
 unfolding window
-set-window s (settings c) cs e = refl
-set-window s (shape points n loopback) cs e = refl
-set-window s (path points n closed) cs e = refl
-set-window s (bus k z) cs e = refl
-set-window s (phase t) cs e = absurd e
-set-window s (block t n restart x y) cs e = absurd e
+set-window s c cs e = ap (λ (l : List TransportCodes). cond (accepts s c) l (window (step s c) cs)) (set-ends c _ _ e)
 
 -- ---- up to the next restart or edit
 

@@ -89,20 +89,25 @@ module _ (s : Settings) (q : Curve) (fields : TransportFields) (S : Standing s f
   abbrev pub Later : Side → List Call → Type 0
   Later side cs = (p : State) → Steady p → Every (Gets s fields) (window p cs) → GoesOn side p (heard side p cs)
 
+  -- a call that leaves the player adds nothing
   left-case : (side : Side) (p z : State) (cs : List Call) → z ≡ p → Steady p → Every (Gets s fields) (window z cs) → Later side cs → GoesOn side p (heard side z cs)
   left-case side p z cs e d ev ih = subst (λ (w : State). Every (Gets s fields) (window w cs) → GoesOn side p (heard side w cs)) (sym e) (ih p d) ev
 
-  -- an edit where it is accepted is the end; what leaves the player adds nothing, accepted or refused
-  edit-case : (side : Side) (p z : State) (cs : List Call) (t : Bool) → (t ≡ false → z ≡ p) → Steady p
-      → Every (Gets s fields) (cond t [] (window z cs)) → Later side cs → GoesOn side p (cond t [] (heard side z cs))
+  -- an accepted edit is the end
+  edit-case : (side : Side) (p : State) (c : Call) (cs : List Call) → Steady p → Every (Gets s fields) (cond (accepts p c) [] (window (step p c) cs)) → Later side cs
+      → GoesOn side p (cond (accepts p c) [] (heard side (step p c) cs))
   unfolding plays
-  edit-case side p z cs true k d ev ih = (0, refl)
-  edit-case side p z cs false k d ev ih = left-case side p z cs (k refl) d ev ih
+  edit-case side p c cs d ev ih = go (accepts p c) (refused-player p c) ev
+    where
+      go : (t : Bool) → (t ≡ false → step p c ≡ p) → Every (Gets s fields) (cond t [] (window (step p c) cs)) → GoesOn side p (cond t [] (heard side (step p c) cs))
+      go true k ev = (0, refl)
+      go false k ev = left-case side p (step p c) cs (k refl) d ev ih
 
-  read-case : (side : Side) (p z : State) (cs : List Call) (t : Bool) → z ≡ p → Steady p
-      → Every (Gets s fields) (cond t (window z cs) (window z cs)) → Later side cs → GoesOn side p (cond t (heard side z cs) (heard side z cs))
-  read-case side p z cs true k d ev ih = left-case side p z cs k d ev ih
-  read-case side p z cs false k d ev ih = left-case side p z cs k d ev ih
+  -- a phase read adds nothing, accepted or refused
+  read-case : (side : Side) (p z : State) (cs : List Call) (t : Bool) → z ≡ p → Steady p → Every (Gets s fields) (cond t (window z cs) (window z cs)) → Later side cs
+      → GoesOn side p (cond t (heard side z cs) (heard side z cs))
+  read-case side p z cs true e d ev ih = left-case side p z cs e d ev ih
+  read-case side p z cs false e d ev ih = left-case side p z cs e d ev ih
 
   module _ (side : Side) (p : State) (d : Steady p) (c : TransportCodes) (n : ℕ) (P : Passes c) (g : Gets s fields c) where
     abbrev t : Transport
@@ -172,14 +177,10 @@ module _ (s : Settings) (q : Curve) (fields : TransportFields) (S : Standing s f
   pub heard-plays : (side : Side) (cs : List Call) → Later side cs
   unfolding heard window plays
   heard-plays side [] p d ev = (0, refl)
-  heard-plays side (settings c ∷ cs) p d ev =
-      edit-case side p (step p (settings c)) cs (accepts p (settings c)) (refused-player p (settings c)) d ev (heard-plays side cs)
-  heard-plays side (shape points n loopback ∷ cs) p d ev =
-      edit-case side p (step p (shape points n loopback)) cs (accepts p (shape points n loopback)) (refused-player p (shape points n loopback)) d ev (heard-plays side cs)
-  heard-plays side (path points n closed ∷ cs) p d ev =
-      edit-case side p (step p (path points n closed)) cs (accepts p (path points n closed)) (refused-player p (path points n closed)) d ev (heard-plays side cs)
-  heard-plays side (bus k z ∷ cs) p d ev =
-      edit-case side p (step p (bus k z)) cs (accepts p (bus k z)) (refused-player p (bus k z)) d ev (heard-plays side cs)
+  heard-plays side (settings c ∷ cs) p d ev = edit-case side p (settings c) cs d ev (heard-plays side cs)
+  heard-plays side (shape points n loopback ∷ cs) p d ev = edit-case side p (shape points n loopback) cs d ev (heard-plays side cs)
+  heard-plays side (path points n closed ∷ cs) p d ev = edit-case side p (path points n closed) cs d ev (heard-plays side cs)
+  heard-plays side (bus k z ∷ cs) p d ev = edit-case side p (bus k z) cs d ev (heard-plays side cs)
   heard-plays side (phase c ∷ cs) p d ev = read-case side p (step p (phase c)) cs (accepts p (phase c)) (phase-keeps p c) d ev (heard-plays side cs)
   heard-plays side (block c n r x y ∷ cs) p d ev =
       block-case side p d c n r x y cs (accepts p (block c n r x y)) (step p (block c n r x y)) refl refl ev (heard-plays side cs)

@@ -3,7 +3,7 @@ use Prim.Native.Nat.{ℕ, _<_}
 use mathlib.Core.Path.{_≡_, refl}
 use mathlib.Core.Logic.{inl}
 use mathlib.Core.Bool.{true, false}
-use mathlib.Core.List.{List, [], _∷_, _++_}
+use mathlib.Core.List.{List, [], _∷_}
 use native.Mathlib.Omega.{arith}
 use lib.ListN.{length, getD, replicate}
 use lib.Ieee.{Float, nan, inf, ofBits, eq, lt, le}
@@ -35,7 +35,7 @@ use Rattle.questions.specs.Tests.{every, pointKnown, pointFinite, settingsFinit
 use Rattle.questions.specs.Questions.{firstNo, settingsQuestions, shapeQuestions, busQuestions, phaseQuestions, blockQuestions}
 use Rattle.calls.specs.State.{newState, withSettings, withShape, withBus, movedBuses}
 use Rattle.calls.specs.Blocks.{pendingOf, playedState, values}
-use Rattle.calls.specs.Calls.{Call, settings, shape, path, bus, phase, block, questions, answer, makes, made, accepted, step, after, played, buffer}
+use Rattle.calls.specs.Calls.{Call, settings, shape, bus, phase, block, questions, answer, makes, made, accepted, step, after, played, buffer}
 use Rattle.restart.specs.Heard.{Side, x-side, y-side, read, heard, window}
 use Rattle.restart.specs.Rule.{RestartFrom, framesFrom, throughout, atRestart, transportFields, none, more, Hypotheses, JustMade}
 use Rattle.restart.proofs.RestartRule.{restart-rule}

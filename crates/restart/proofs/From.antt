@@ -15,14 +15,14 @@ use Rattle.voice.specs.declared.Voice.{Voice}
 use Rattle.voice.specs.Curve.{Curve}
 use Rattle.voice.specs.Voice.{triggeredVoice}
 use Rattle.bank.specs.declared.parts.Pending.{Pending}
-use Rattle.bank.specs.declared.parts.Pending.the-variants.{None, At}
+use Rattle.bank.specs.declared.parts.Pending.the-variants.{At}
 use Rattle.bank.specs.Parts.{reaching, restarted}
 use Rattle.slot.specs.declared.Lfo.{Lfo}
 use Rattle.slot.specs.Slot.{slotCurve}
 use Rattle.questions.specs.declared.RestartCodes.{RestartCodes}
 use Rattle.calls.specs.State.{State}
 use Rattle.calls.specs.Blocks.{pendingOf, playedState, values}
-use Rattle.calls.specs.Calls.{Call, block, answer, accepts}
+use Rattle.calls.specs.Calls.{answer, accepts}
 use Rattle.restart.specs.Heard.{Side, read, heard, window}
 use Rattle.restart.specs.Rule.{RestartFrom, restartBlock, stateAt, statePast, frameAt, framesFrom, throughout, wordAt, TransportFields, Gets, Every}
 use Rattle.restart.proofs.Constants.{Constants, constantsOf}
