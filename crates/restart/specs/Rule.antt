@@ -56,7 +56,7 @@ module _ {from : State} (r : RestartFrom from) where
   abbrev pub restartBlock : Call
   restartBlock = block (r .transport) (r .frames) (r .restart) (r .x) (r .y)
 
-  -- the list of calls: every list with a restart in it is such a one
+  -- the list of calls; every list with a restart in it is such a one (`every-restart` of the proof)
   abbrev pub callsOf : List Call
   callsOf = r .before ++ (restartBlock ∷ r .rest)
 
