@@ -6,8 +6,8 @@ use mathlib.Core.List.{List, [], _∷_}
 use lib.Dec.{eqb}
 use lib.ListN.{take}
 use lib.Ieee.{Float}
-use Rattle.settings.specs.declared.record.TransportCodes.{TransportCodes}
-use Rattle.questions.specs.declared.RestartCodes.{RestartCodes}
+use Rattle.codes.specs.declared.TransportCodes.{TransportCodes}
+use Rattle.codes.specs.declared.RestartCodes.{RestartCodes}
 use Rattle.calls.specs.State.{State}
 use Rattle.calls.specs.Blocks.{pendingOf}
 use Rattle.calls.specs.Calls.{Call, settings, shape, path, bus, phase, block, isEdit, byBlock, accepts, step}
@@ -32,8 +32,8 @@ read-is y-side p t n restart x y r x′ y′ m = ap (take n) (m .y-is)
 set-ends : {A : Type 0} (c : Call) (later : List A) (f : TransportCodes → ℕ → RestartCodes → List Float → List Float → List A) → Sets c
     → byBlock (cond (isEdit c) [] later) c f ≡ []
 set-ends (settings c) later f e = refl
-set-ends (shape points n loopback) later f e = refl
-set-ends (path points n closed) later f e = refl
+set-ends (shape c) later f e = refl
+set-ends (path c) later f e = refl
 set-ends (bus k z) later f e = refl
 set-ends (phase t) later f e = absurd e
 set-ends (block t n restart x y) later f e = absurd e

@@ -8,7 +8,7 @@ use lib.Ieee.{Float, eq}
 use borrow.Author.Tests.{eqb-true}
 use Rattle.settings.specs.declared.record.Settings.{Settings}
 use Rattle.settings.specs.declared.record.Transport.{Transport}
-use Rattle.settings.specs.declared.record.TransportCodes.{TransportCodes}
+use Rattle.codes.specs.declared.TransportCodes.{TransportCodes}
 use Rattle.clock.specs.declared.block.Block.{Block}
 use Rattle.clock.specs.declared.block.SongLock.the-variants as SongLock
 use Rattle.clock.specs.declared.free.Clock.{Clock}
@@ -18,7 +18,7 @@ use Rattle.voice.specs.declared.Voice.{Voice}
 use Rattle.voice.specs.Curve.{Curve}
 use Rattle.bank.specs.declared.parts.Pending.{Pending}
 use Rattle.bank.specs.declared.parts.Pending.the-variants.{None, At}
-use Rattle.questions.specs.declared.RestartCodes.{RestartCodes}
+use Rattle.codes.specs.declared.RestartCodes.{RestartCodes}
 use Rattle.calls.specs.State.{State}
 use Rattle.calls.specs.Blocks.{pendingOf, playedState, values}
 use Rattle.calls.specs.Calls.{Call, settings, shape, path, bus, phase, block, answer, accepts, step}
@@ -178,8 +178,8 @@ module _ (s : Settings) (q : Curve) (fields : TransportFields) (S : Standing s f
   unfolding heard window plays
   heard-plays side [] p d ev = (0, refl)
   heard-plays side (settings c ∷ cs) p d ev = edit-case side p (settings c) cs d ev (heard-plays side cs)
-  heard-plays side (shape points n loopback ∷ cs) p d ev = edit-case side p (shape points n loopback) cs d ev (heard-plays side cs)
-  heard-plays side (path points n closed ∷ cs) p d ev = edit-case side p (path points n closed) cs d ev (heard-plays side cs)
+  heard-plays side (shape c ∷ cs) p d ev = edit-case side p (shape c) cs d ev (heard-plays side cs)
+  heard-plays side (path c ∷ cs) p d ev = edit-case side p (path c) cs d ev (heard-plays side cs)
   heard-plays side (bus k z ∷ cs) p d ev = edit-case side p (bus k z) cs d ev (heard-plays side cs)
   heard-plays side (phase c ∷ cs) p d ev = read-case side p (step p (phase c)) cs (accepts p (phase c)) (phase-keeps p c) d ev (heard-plays side cs)
   heard-plays side (block c n r x y ∷ cs) p d ev =

@@ -16,7 +16,7 @@ use lib.ListN.{length, getD}
 use lib.Ieee.{Float, nan}
 use Rattle.settings.specs.declared.choices.LfoType.the-variants.{SampleAndHold}
 use Rattle.settings.specs.declared.record.Settings.{Settings}
-use Rattle.settings.specs.declared.record.TransportCodes.{TransportCodes}
+use Rattle.codes.specs.declared.TransportCodes.{TransportCodes}
 use Rattle.clock.specs.declared.block.Block.{Block}
 use Rattle.clock.specs.Free.{newClock}
 use Rattle.clock.specs.Ready.{preparedOf}
@@ -25,7 +25,7 @@ use Rattle.voice.specs.Curve.{Curve}
 use Rattle.voice.specs.Voice.{triggeredVoice}
 use Rattle.bank.specs.Parts.{reaching, restarted}
 use Rattle.slot.specs.Slot.{slotCurve}
-use Rattle.questions.specs.declared.RestartCodes.{RestartCodes}
+use Rattle.codes.specs.declared.RestartCodes.{RestartCodes}
 use Rattle.calls.specs.State.{State}
 use Rattle.calls.specs.Calls.{Call, block, answer, after}
 use Rattle.restart.specs.Heard.{Side, x-side, y-side}

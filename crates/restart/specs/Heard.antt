@@ -4,10 +4,10 @@ use mathlib.Core.Bool.{cond}
 use mathlib.Core.List.{List, [], _∷_, _++_}
 use lib.ListN.{take}
 use lib.Ieee.{Float}
-use Rattle.settings.specs.declared.record.TransportCodes.{TransportCodes}
+use Rattle.codes.specs.declared.TransportCodes.{TransportCodes}
 use Rattle.bank.specs.declared.parts.Pending.{Pending}
 use Rattle.bank.specs.declared.parts.Pending.the-variants.{None, At}
-use Rattle.questions.specs.declared.RestartCodes.{RestartCodes}
+use Rattle.codes.specs.declared.RestartCodes.{RestartCodes}
 use Rattle.calls.specs.State.{State}
 use Rattle.calls.specs.Blocks.{pendingOf}
 use Rattle.calls.specs.Calls.{Call, isEdit, byBlock, accepts, step, buffer}
