@@ -93,7 +93,7 @@ other =
 abbrev percent : ScaleCodes
 percent = record { code = 0; percent = f32-1 }
 
--- one rate at two places of the song, stopped
+-- the same five fields at two places of the song, stopped
 abbrev pub here : TransportCodes
 here =
     record {
@@ -120,7 +120,7 @@ there =
       scale = percent;
     }
 
--- another rate, which plays
+-- other ones, and it plays
 abbrev song : TransportCodes
 song =
     record {
