@@ -1,15 +1,15 @@
 // Paths.
 ghost use mathlib.Core.Path.{_≡_};
 ghost use lib.ListN.{replicate};
-ghost use Rattle.runs.specs.Parser.{Reads};
+ghost use Rattle.fields.specs.Places.{Reads};
 ghost use Rattle.runs.specs.Curves.{pathPoint, pathPoints, blankPathPoint, path};
-use super::fields::Place;
-use super::fields::read_below;
-use super::fields::read_f32;
-use super::fields::read_number;
 use super::shapes::read_mod;
 use curves::ModCodes;
 use curves::PathPointCodes;
+use fields::Place;
+use fields::read_below;
+use fields::read_f32;
+use fields::read_number;
 use points::MAX_POINTS;
 
 pub struct PathPointRead {

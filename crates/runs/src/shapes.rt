@@ -1,18 +1,18 @@
 // Shapes.
 ghost use mathlib.Core.Path.{_≡_};
 ghost use lib.ListN.{replicate};
-ghost use Rattle.runs.specs.Parser.{Reads};
+ghost use Rattle.fields.specs.Places.{Reads};
 ghost use Rattle.runs.specs.Curves.{modulation, point, points, blankPoint, loopback, shape};
-use super::fields::Place;
-use super::fields::read_below;
-use super::fields::read_byte_if;
-use super::fields::read_f32;
-use super::fields::read_f32_if;
-use super::fields::read_number;
-use super::fields::read_number_if;
 use curves::LoopbackCodes;
 use curves::ModCodes;
 use curves::PointCodes;
+use fields::Place;
+use fields::read_below;
+use fields::read_byte_if;
+use fields::read_f32;
+use fields::read_f32_if;
+use fields::read_number;
+use fields::read_number_if;
 use points::MAX_POINTS;
 
 pub struct ModRead {
