@@ -6,7 +6,7 @@ use mathlib.Core.List.{List}
 use lib.ListN.{length}
 use lib.Ieee.{Float}
 use Rattle.settings.specs.declared.record.Transport.{Transport}
-use Rattle.settings.specs.declared.record.TransportCodes.{TransportCodes}
+use Rattle.codes.specs.declared.TransportCodes.{TransportCodes}
 use Rattle.settings.specs.declared.record.TransportCode.{TransportCode}
 use Rattle.settings.specs.declared.record.TransportCode.the-variants as TransportCode
 use Rattle.settings.specs.Codes.{transportAt}
@@ -14,7 +14,7 @@ use Rattle.clock.specs.declared.free.Clock.{Clock}
 use Rattle.bank.specs.declared.parts.Pending.{Pending}
 use Rattle.slot.specs.declared.Lfo.{Lfo}
 use Rattle.slot.specs.Slot.{clockedLfo, Ready}
-use Rattle.questions.specs.declared.RestartCodes.{RestartCodes}
+use Rattle.codes.specs.declared.RestartCodes.{RestartCodes}
 use Rattle.questions.specs.Questions.{firstNo, blockQuestions}
 use Rattle.questions.proofs.Facts.{BlockAccepted, block-accepted, transport-in}
 use Rattle.calls.specs.Blocks.{pendingOf, playedState, values, finished}

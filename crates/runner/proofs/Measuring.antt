@@ -12,7 +12,7 @@ use Rattle.points.specs.Arrays.{floats}
 use Rattle.path_segments.specs.Times.{segmentsOf}
 use Rattle.path_segments.proofs.AcceptedPath.{segments-le}
 use Rattle.path.specs.Paths.{legsOf, pathOf, pathLegs}
-use Rattle.curves.specs.declared.PathPointCodes.{PathPointCodes}
+use Rattle.codes.specs.declared.PathCodes.{PathCodes}
 use Rattle.curves.specs.Given.{isYes, givenPath}
 use Rattle.questions.specs.Questions.{firstNo, pathQuestions}
 use Rattle.evaluate.specs.declared.Legs.{Legs}
@@ -41,11 +41,11 @@ few-answered false r n e h l = record { most = omega arith; long = refl; refused
 floats-long : (f : ℕ → Float) (n : ℕ) → n ≤ 64 → length (floats f n) ≡ 64
 floats-long f n h = rw (length-append, length-replicate, length-tabulate f n) (omega arith)
 
-few-legs : (points : List PathPointCodes) (count closed : ℕ) → Few (evaluatedLegs points count closed)
+few-legs : (c : PathCodes) → Few (evaluatedLegs c)
 unfolding evaluatedLegs givenPath pathOf pathLegs legsOf
-few-legs points count closed =
-    let most : segmentsOf (min count 64) (isYes closed) ≤ 64 = omega (arith, segments-le (min count 64) (isYes closed)) in
-    let n = firstNo (pathQuestions true points count closed) in
+few-legs c =
+    let most : segmentsOf (min (c .count) 64) (isYes (c .closed)) ≤ 64 = omega (arith, segments-le (min (c .count) 64) (isYes (c .closed))) in
+    let n = firstNo (pathQuestions true c) in
     few-answered (eqb n 0) _ n refl most (floats-long _ _ most)
 
 module _ (answer count : ℕ) (lengths : List Float) where
@@ -55,17 +55,17 @@ module _ (answer count : ℕ) (lengths : List Float) where
   by-answer true none = ap (λ l. answer ∷ count ∷ l) (sym (append-nil (bitsOf (take count lengths))))
   by-answer false none = rw (none refl)
 
-module _ (points : List PathPointCodes) (count closed : ℕ) {r : Legs} (r-is : r ≡ evaluatedLegs points count closed) where
+module _ (c : PathCodes) {r : Legs} (r-is : r ≡ evaluatedLegs c) where
   pub few : Few r
-  few = rw r-is (few-legs points count closed)
+  few = rw r-is (few-legs c)
 
-  legs-numbers : legsNumbers (evaluatedLegs points count closed) ≡ listed (take (howMany (r .answer)) (r .answer ∷ r .count ∷ [])) (take (r .count) (r .lengths)) []
+  legs-numbers : legsNumbers (evaluatedLegs c) ≡ listed (take (howMany (r .answer)) (r .answer ∷ r .count ∷ [])) (take (r .count) (r .lengths)) []
   unfolding legsNumbers
   legs-numbers = rw (← r-is) (by-answer (r .answer) (r .count) (r .lengths) (eqb (r .answer) 0) (few .refused))
 
   pub legs-turned : (p : Player) → Valid p → {n : ℕ} → n ≡ howMany (r .answer) → (run o : List ℕ) (place at : ℕ)
       → {v : Writing} {o′ : List ℕ} → Gives o place (listed (take n (r .answer ∷ r .count ∷ [])) (take (r .count) (r .lengths)) []) v o′
-      → Turns run (givenOf p run (read (legs points count closed) at)) o place (turnOf v place at true p) o′
+      → Turns run (givenOf p run (read (legs c) at)) o place (turnOf v place at true p) o′
   unfolding givenBy numbers stateAfter
   legs-turned p valid {n} n-is run o place at g =
       same-turns

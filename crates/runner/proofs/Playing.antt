@@ -7,8 +7,8 @@ use native.Mathlib.Omega.{arith}
 use lib.Dec.{eqb}
 use lib.ListN.{length, take, replicate, length-replicate}
 use lib.Ieee.{Float}
-use Rattle.settings.specs.declared.record.TransportCodes.{TransportCodes}
-use Rattle.questions.specs.declared.RestartCodes.{RestartCodes}
+use Rattle.codes.specs.declared.TransportCodes.{TransportCodes}
+use Rattle.codes.specs.declared.RestartCodes.{RestartCodes}
 use Rattle.number.specs.declared.Writing.{Writing}
 use Rattle.calls.specs.Calls.{answer, buffer}
 use Rattle.calls.specs.Calls as Calls

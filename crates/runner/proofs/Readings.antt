@@ -6,13 +6,13 @@ use mathlib.Core.List.{List}
 use lib.Dec.{eqb}
 use lib.ListN.{getD}
 use lib.Ieee.{Float}
-use Rattle.settings.specs.declared.record.SettingsCodes.{SettingsCodes}
-use Rattle.settings.specs.declared.record.TransportCodes.{TransportCodes}
-use Rattle.questions.specs.declared.RestartCodes.{RestartCodes}
+use Rattle.codes.specs.declared.SettingsCodes.{SettingsCodes}
+use Rattle.codes.specs.declared.TransportCodes.{TransportCodes}
+use Rattle.codes.specs.declared.RestartCodes.{RestartCodes}
 use Rattle.calls.specs.Calls as Calls
 use Rattle.fields.specs.declared.reader.Place.{Place}
-use Rattle.runs.specs.declared.shapes.ShapeCodes.{ShapeCodes}
-use Rattle.runs.specs.declared.paths.PathCodes.{PathCodes}
+use Rattle.codes.specs.declared.ShapeCodes.{ShapeCodes}
+use Rattle.codes.specs.declared.PathCodes.{PathCodes}
 use Rattle.fields.specs.Parser.{read, fault, after}
 use Rattle.fields.specs.Fields.{number, upTo, f32}
 use Rattle.fields.specs.Places.{onward, Reads}
@@ -32,15 +32,15 @@ module _ (run : List ℕ) {from a : Place} where
   unfolding phaseCall
   phase-call r = chain _ r last
 
-  pub shape-call : {s : ShapeCodes} → Reads (shape run) from s a → Reads (shapeCall run) from (call (Calls.shape (s .points) (s .count) (s .loopback))) a
+  pub shape-call : {c : ShapeCodes} → Reads (shape run) from c a → Reads (shapeCall run) from (call (Calls.shape c)) a
   unfolding shapeCall
   shape-call r = chain _ r last
 
-  pub path-call : {s : PathCodes} → Reads (path run) from s a → Reads (pathCall run) from (call (Calls.path (s .points) (s .count) (s .closed))) a
+  pub path-call : {c : PathCodes} → Reads (path run) from c a → Reads (pathCall run) from (call (Calls.path c)) a
   unfolding pathCall
   path-call r = chain _ r last
 
-  pub legs-call : {s : PathCodes} → Reads (path run) from s a → Reads (legsCall run) from (legs (s .points) (s .count) (s .closed)) a
+  pub legs-call : {c : PathCodes} → Reads (path run) from c a → Reads (legsCall run) from (legs c) a
   unfolding legsCall
   legs-call r = chain _ r last
 
@@ -49,13 +49,11 @@ module _ (run : List ℕ) {from a b : Place} where
   unfolding busCall
   bus-call r s = chain _ r (chain _ s last)
 
-  pub shape-at-call : {s : ShapeCodes} {x : Float} → Reads (shape run) from s a → Reads (f32 run) a x b
-      → Reads (shapeAtCall run) from (shapeAt (s .points) (s .count) (s .loopback) x) b
+  pub shape-at-call : {c : ShapeCodes} {x : Float} → Reads (shape run) from c a → Reads (f32 run) a x b → Reads (shapeAtCall run) from (shapeAt c x) b
   unfolding shapeAtCall
   shape-at-call r s = chain _ r (chain _ s last)
 
-  pub path-at-call : {s : PathCodes} {t : Float} → Reads (path run) from s a → Reads (f32 run) a t b
-      → Reads (pathAtCall run) from (pathAt (s .points) (s .count) (s .closed) t) b
+  pub path-at-call : {c : PathCodes} {t : Float} → Reads (path run) from c a → Reads (f32 run) a t b → Reads (pathAtCall run) from (pathAt c t) b
   unfolding pathAtCall
   path-at-call r s = chain _ r (chain _ s last)
 

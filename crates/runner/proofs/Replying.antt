@@ -6,8 +6,8 @@ use mathlib.Core.List.{List, [], _∷_}
 use native.Mathlib.Omega.{arith}
 use lib.Dec.{eqb}
 use lib.ListN.{length, take}
-use Rattle.settings.specs.declared.record.SettingsCodes.{SettingsCodes}
-use Rattle.settings.specs.declared.record.TransportCodes.{TransportCodes}
+use Rattle.codes.specs.declared.SettingsCodes.{SettingsCodes}
+use Rattle.codes.specs.declared.TransportCodes.{TransportCodes}
 use Rattle.questions.specs.Questions.{firstNo, settingsQuestions}
 use Rattle.questions.specs.Answers.{Answer}
 use Rattle.calls.specs.State.{State}

@@ -3,11 +3,10 @@ use Prim.Native.Nat.{ℕ}
 use mathlib.Core.List.{List, [], _∷_}
 use lib.ListN.{getD, replicate}
 use lib.Ieee.{Float, binary32, ofBits}
-use Rattle.settings.specs.declared.record.TransportCodes.{TransportCodes}
-use Rattle.questions.specs.declared.RestartCodes.{RestartCodes}
-use Rattle.curves.specs.declared.PointCodes.{PointCodes}
-use Rattle.curves.specs.declared.PathPointCodes.{PathPointCodes}
-use Rattle.curves.specs.declared.LoopbackCodes.{LoopbackCodes}
+use Rattle.codes.specs.declared.TransportCodes.{TransportCodes}
+use Rattle.codes.specs.declared.RestartCodes.{RestartCodes}
+use Rattle.codes.specs.declared.ShapeCodes.{ShapeCodes}
+use Rattle.codes.specs.declared.PathCodes.{PathCodes}
 use Rattle.calls.specs.Calls.{Call}
 use Rattle.calls.specs.Calls as Calls
 use Rattle.fields.specs.Parser.{Parser, fault, badNumber, _then_, done}
@@ -18,9 +17,9 @@ use Rattle.runs.specs.Curves.{shape, path}
 -- a call on the player, or one that evaluates a shape, a path or the legs of a path
 pub data Asked : Type 0 where
   call : Call → Asked
-  shapeAt : List PointCodes → ℕ → LoopbackCodes → Float → Asked
-  pathAt : List PathPointCodes → ℕ → ℕ → Float → Asked
-  legs : List PathPointCodes → ℕ → ℕ → Asked
+  shapeAt : ShapeCodes → Float → Asked
+  pathAt : PathCodes → Float → Asked
+  legs : PathCodes → Asked
 
 -- "before each block every element of both is 7.0 (bits 40e00000)"
 abbrev pub seven : Float
@@ -35,11 +34,11 @@ settingsCall = settings then λ c. done (call (Calls.settings c))
 
 -- tag 1
 unfoldable pub shapeCall : Parser Asked
-shapeCall = shape then λ s. done (call (Calls.shape (s .points) (s .count) (s .loopback)))
+shapeCall = shape then λ c. done (call (Calls.shape c))
 
 -- tag 2
 unfoldable pub pathCall : Parser Asked
-pathCall = path then λ s. done (call (Calls.path (s .points) (s .count) (s .closed)))
+pathCall = path then λ c. done (call (Calls.path c))
 
 -- tag 3
 unfoldable pub busCall : Parser Asked
@@ -64,15 +63,15 @@ blockCall =
 
 -- tag 6
 unfoldable pub shapeAtCall : Parser Asked
-shapeAtCall = shape then λ s. f32 then λ x. done (shapeAt (s .points) (s .count) (s .loopback) x)
+shapeAtCall = shape then λ c. f32 then λ x. done (shapeAt c x)
 
 -- tag 7
 unfoldable pub pathAtCall : Parser Asked
-pathAtCall = path then λ s. f32 then λ t. done (pathAt (s .points) (s .count) (s .closed) t)
+pathAtCall = path then λ c. f32 then λ t. done (pathAt c t)
 
 -- tag 8
 unfoldable pub legsCall : Parser Asked
-legsCall = path then λ s. done (legs (s .points) (s .count) (s .closed))
+legsCall = path then λ c. done (legs c)
 
 -- a tag of no call
 abbrev pub none : Parser Asked

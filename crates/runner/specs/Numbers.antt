@@ -5,8 +5,8 @@ use mathlib.Core.List.{List, [], _∷_}
 use lib.Dec.{eqb}
 use lib.ListN.{take}
 use lib.Ieee.{Float}
-use Rattle.settings.specs.declared.record.TransportCodes.{TransportCodes}
-use Rattle.questions.specs.declared.RestartCodes.{RestartCodes}
+use Rattle.codes.specs.declared.TransportCodes.{TransportCodes}
+use Rattle.codes.specs.declared.RestartCodes.{RestartCodes}
 use Rattle.questions.specs.Answers.{Answer}
 use Rattle.evaluate.specs.declared.Legs.{Legs}
 use Rattle.evaluate.specs.Values.{evaluatedShape, evaluatedPath, evaluatedLegs}
@@ -40,21 +40,21 @@ blockNumbers p t frames at x y =
 
 unfoldable pub callNumbers : State → Call → List ℕ
 callNumbers p (settings c) = answer p (settings c) ∷ []
-callNumbers p (shape points count loopback) = answer p (shape points count loopback) ∷ []
-callNumbers p (path points count closed) = answer p (path points count closed) ∷ []
+callNumbers p (shape c) = answer p (shape c) ∷ []
+callNumbers p (path c) = answer p (path c) ∷ []
 callNumbers p (bus k value) = answer p (bus k value) ∷ []
 callNumbers p (phase t) = answerNumbers (phaseAnswer p t)
 callNumbers p (block t frames at x y) = blockNumbers p t frames at x y
 
 unfoldable pub numbers : State → Asked → List ℕ
 numbers p (call c) = callNumbers p c
-numbers p (shapeAt points count loopback x) = answerNumbers (evaluatedShape points count loopback x)
-numbers p (pathAt points count closed t) = answerNumbers (evaluatedPath points count closed t)
-numbers p (legs points count closed) = legsNumbers (evaluatedLegs points count closed)
+numbers p (shapeAt c x) = answerNumbers (evaluatedShape c x)
+numbers p (pathAt c t) = answerNumbers (evaluatedPath c t)
+numbers p (legs c) = legsNumbers (evaluatedLegs c)
 
 -- the player after it
 unfoldable pub stateAfter : State → Asked → State
 stateAfter p (call c) = step p c
-stateAfter p (shapeAt points count loopback x) = p
-stateAfter p (pathAt points count closed t) = p
-stateAfter p (legs points count closed) = p
+stateAfter p (shapeAt c x) = p
+stateAfter p (pathAt c t) = p
+stateAfter p (legs c) = p

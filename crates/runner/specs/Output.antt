@@ -6,7 +6,7 @@ use mathlib.Core.List.{List, [], _∷_}
 use lib.Dec.{ltb}
 use lib.ListN.{length}
 use Rattle.listlaws.specs.Over.{over}
-use Rattle.settings.specs.declared.record.SettingsCodes.{SettingsCodes}
+use Rattle.codes.specs.declared.SettingsCodes.{SettingsCodes}
 use Rattle.questions.specs.Questions.{firstNo, settingsQuestions}
 use Rattle.calls.specs.State.{State}
 use Rattle.calls.specs.Calls.{makes, made}

@@ -12,7 +12,7 @@ use Rattle.number.specs.Read.{leading, numberOf, shortest, judged, readFrom, re
 use Rattle.number.specs.Read as Read
 use Rattle.settings.specs.Codes.{settingsKnown}
 use Rattle.curves.specs.Given.{givenPath}
-use Rattle.questions.specs.Tests.{every, settingsFinite}
+use Rattle.questions.specs.Tests.{every, everyKept, settingsFinite, pathKnown, pathFinite, pathOnPaper}
 use Rattle.questions.specs.Questions.{firstNo, settingsQuestions, pathQuestions, busQuestions}
 use Rattle.evaluate.specs.Values.{evaluatedLegs}
 use Rattle.calls.specs.Calls.{questions, answer}
@@ -46,7 +46,7 @@ runs =
 -- points has no leg. The bus 16 is refused by question 9, and its answer needs room. The kind 5 is refused by question 1, and nothing behind it is read.
 outputs : map (λ c. output (c .0) (c .1)) runs
     ≡ (0xff ∷ 0x01 ∷ []) ∷ [] ∷ (0 ∷ []) ∷ (0 ∷ 0xff ∷ 0x01 ∷ []) ∷ (0 ∷ 0 ∷ 0 ∷ []) ∷ (0 ∷ 9 ∷ []) ∷ (0 ∷ []) ∷ (1 ∷ []) ∷ []
-unfolding zeros runs output fitting givenFrom make given givenBy asked byTag busCall legsCall numbers callNumbers legsNumbers evaluatedLegs givenPath pathOf segmentsOf answer questions busQuestions pathQuestions every settingsQuestions firstNo settingsKnown settingsFinite settings rate span smooth path kept number below f32 when after readAt readFrom leading judged shortest numberOf Read.below bytesOf encoded groups ofBits
+unfolding zeros runs output fitting givenFrom make given givenBy asked byTag busCall legsCall numbers callNumbers legsNumbers evaluatedLegs givenPath pathOf segmentsOf answer questions busQuestions pathQuestions pathKnown pathFinite pathOnPaper everyKept every settingsQuestions firstNo settingsKnown settingsFinite settings rate span smooth path kept number below f32 when after readAt readFrom leading judged shortest numberOf Read.below bytesOf encoded groups ofBits
 outputs = refl
 
 -- two legs of three, and a refusal, whose number stands alone

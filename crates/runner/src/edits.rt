@@ -31,9 +31,7 @@ pub fn shape_reply(run: &[u8], from: Place, p: Player) -> Reply
     let next = s.next;
     if next.fault == 0 {
         let codes = s.value;
-        let points = codes.points;
-        let loopback = codes.loopback;
-        return edited(player::set_shape(p, points, codes.count, loopback), next.at);
+        return edited(player::set_shape(p, codes), next.at);
     }
     malformed(p)
 }
@@ -47,11 +45,7 @@ pub fn path_reply(run: &[u8], from: Place, p: Player) -> Reply
     let next = s.next;
     if next.fault == 0 {
         let codes = s.value;
-        let points = codes.points;
-        return edited(
-            player::set_path(p, points, codes.count, codes.closed),
-            next.at,
-        );
+        return edited(player::set_path(p, codes), next.at);
     }
     malformed(p)
 }

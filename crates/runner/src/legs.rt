@@ -4,28 +4,19 @@ use super::writing::how_many;
 use super::writing::malformed;
 use super::writing::turn_of;
 use super::writing::write_reply;
-use curves::PathPointCodes;
+use codes::PathCodes;
 use fields::Place;
 use player::Player;
-use points::MAX_POINTS;
 ghost use Rattle.player.specs.Player.{Valid};
 ghost use Rattle.runner.specs.Asked.{legs, legsCall};
 ghost use Rattle.runner.specs.Promises.{TurnsOn, TurnsBy};
 
 // Evaluates the legs of a path, and writes what that gives.
-fn measure(
-    points: [PathPointCodes; MAX_POINTS],
-    count: usize,
-    closed: u64,
-    at: usize,
-    p: Player,
-    out: &mut [u8],
-    place: usize,
-) -> Turn
+fn measure(c: PathCodes, at: usize, p: Player, out: &mut [u8], place: usize) -> Turn
     requires { ⌜ Valid p ⌝ }
-    ensures { λ r. ⌜ TurnsBy (legs points count closed) at p (now (out .entry)) place r (now (out .exit)) ⌝ }
+    ensures { λ r. ⌜ TurnsBy (legs c) at p (now (out .entry)) place r (now (out .exit)) ⌝ }
 {
-    let r = evaluate::evaluate_legs(points, count, closed);
+    let r = evaluate::evaluate_legs(c);
     let lengths = r.lengths;
     let n = r.count;
     let numbers = [r.answer as u64, n as u64];
@@ -43,8 +34,7 @@ pub fn legs_turn(run: &[u8], from: Place, p: Player, out: &mut [u8], place: usiz
     let next = s.next;
     if next.fault == 0 {
         let codes = s.value;
-        let points = codes.points;
-        return measure(points, codes.count, codes.closed, next.at, p, out, place);
+        return measure(codes, next.at, p, out, place);
     }
     write_reply(out, place, malformed(p))
 }

@@ -1,12 +1,13 @@
 // The calls that leave the player as it is: the phase, tag 4, and evaluating a shape and a path, tags 6 and 7.
 use super::Reply;
 use super::writing::malformed;
-use evaluate::Value;
+use evaluate::PathResult;
+use evaluate::ShapeResult;
 use fields::Place;
 use player::Player;
 use player::Reading;
 ghost use mathlib.Core.Path.{_≡_};
-ghost use Rattle.evaluate.specs.Values.{valueAnswer, placeAnswer};
+ghost use Rattle.evaluate.specs.Values.{shapeResultAnswer, pathResultAnswer};
 ghost use Rattle.player.specs.Player.{Valid};
 ghost use Rattle.player.specs.Readings.{readingAnswer};
 ghost use Rattle.runner.specs.Asked.{phaseCall, shapeAtCall, pathAtCall};
@@ -33,15 +34,15 @@ fn unchanged(s: Said, at: usize, p: Player) -> Reply
 }
 
 // The answer's number, and where it is 0 the value's bits.
-fn value_says(v: Value) -> Said
-    ensures { λ r. ⌜ Says (valueAnswer v) r ⌝ }
+fn shape_says(v: ShapeResult) -> Said
+    ensures { λ r. ⌜ Says (shapeResultAnswer v) r ⌝ }
 {
     match v {
-        Value::Refused(n) => {
+        ShapeResult::Refused(n) => {
             let numbers = [n as u64, 0, 0];
             Said { numbers, count: 1 }
         }
-        Value::At(y) => {
+        ShapeResult::At(y) => {
             let numbers = [0, replies::bits(y), 0];
             Said { numbers, count: 2 }
         }
@@ -49,15 +50,15 @@ fn value_says(v: Value) -> Said
 }
 
 // The answer's number, and where it is 0 the bits of X and of Y.
-fn place_says(v: evaluate::Place) -> Said
-    ensures { λ r. ⌜ Says (placeAnswer v) r ⌝ }
+fn path_says(v: PathResult) -> Said
+    ensures { λ r. ⌜ Says (pathResultAnswer v) r ⌝ }
 {
     match v {
-        evaluate::Place::Refused(n) => {
+        PathResult::Refused(n) => {
             let numbers = [n as u64, 0, 0];
             Said { numbers, count: 1 }
         }
-        evaluate::Place::At { x, y } => {
+        PathResult::At { x, y } => {
             let numbers = [0, replies::bits(x), replies::bits(y)];
             Said { numbers, count: 3 }
         }
@@ -105,10 +106,8 @@ pub fn shape_at_reply(run: &[u8], from: Place, p: Player) -> Reply
     let next = x.next;
     if next.fault == 0 {
         let codes = s.value;
-        let points = codes.points;
-        let loopback = codes.loopback;
-        let v = evaluate::evaluate_shape(points, codes.count, loopback, x.value);
-        return unchanged(value_says(v), next.at, p);
+        let v = evaluate::evaluate_shape(codes, x.value);
+        return unchanged(shape_says(v), next.at, p);
     }
     malformed(p)
 }
@@ -123,9 +122,8 @@ pub fn path_at_reply(run: &[u8], from: Place, p: Player) -> Reply
     let next = t.next;
     if next.fault == 0 {
         let codes = s.value;
-        let points = codes.points;
-        let v = evaluate::evaluate_path(points, codes.count, codes.closed, t.value);
-        return unchanged(place_says(v), next.at, p);
+        let v = evaluate::evaluate_path(codes, t.value);
+        return unchanged(path_says(v), next.at, p);
     }
     malformed(p)
 }

@@ -4,12 +4,12 @@ use mathlib.Core.List.{List}
 use lib.Dec.{eqb}
 use lib.ListN.{set, replicate}
 use Rattle.floatlaws.specs.Numbers.{f32-0}
-use Rattle.curves.specs.declared.ModCodes.{ModCodes}
-use Rattle.curves.specs.declared.PointCodes.{PointCodes}
-use Rattle.curves.specs.declared.PathPointCodes.{PathPointCodes}
-use Rattle.curves.specs.declared.LoopbackCodes.{LoopbackCodes}
-use Rattle.runs.specs.declared.shapes.ShapeCodes.{ShapeCodes}
-use Rattle.runs.specs.declared.paths.PathCodes.{PathCodes}
+use Rattle.codes.specs.declared.ModCodes.{ModCodes}
+use Rattle.codes.specs.declared.PointCodes.{PointCodes}
+use Rattle.codes.specs.declared.PathPointCodes.{PathPointCodes}
+use Rattle.codes.specs.declared.LoopbackCodes.{LoopbackCodes}
+use Rattle.codes.specs.declared.ShapeCodes.{ShapeCodes}
+use Rattle.codes.specs.declared.PathCodes.{PathCodes}
 use Rattle.fields.specs.Parser.{Parser, _then_, done, when}
 use Rattle.fields.specs.Fields.{number, upTo, byte, f32}
 

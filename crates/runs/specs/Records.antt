@@ -1,13 +1,13 @@
 -- Settings, transports and restarts in a run, each a line of docs/RUN.md. A field of a case that was not chosen is not there. Assumes nothing.
 use lib.Dec.{eqb, ltb}
 use Rattle.floatlaws.specs.Numbers.{f32-0}
-use Rattle.settings.specs.declared.times.RateCodes.{RateCodes}
-use Rattle.settings.specs.declared.times.SpanCodes.{SpanCodes}
-use Rattle.settings.specs.declared.times.ScaleCodes.{ScaleCodes}
-use Rattle.settings.specs.declared.record.SmoothCodes.{SmoothCodes}
-use Rattle.settings.specs.declared.record.SettingsCodes.{SettingsCodes}
-use Rattle.settings.specs.declared.record.TransportCodes.{TransportCodes}
-use Rattle.questions.specs.declared.RestartCodes.{RestartCodes}
+use Rattle.codes.specs.declared.RateCodes.{RateCodes}
+use Rattle.codes.specs.declared.SpanCodes.{SpanCodes}
+use Rattle.codes.specs.declared.ScaleCodes.{ScaleCodes}
+use Rattle.codes.specs.declared.SmoothCodes.{SmoothCodes}
+use Rattle.codes.specs.declared.SettingsCodes.{SettingsCodes}
+use Rattle.codes.specs.declared.TransportCodes.{TransportCodes}
+use Rattle.codes.specs.declared.RestartCodes.{RestartCodes}
 use Rattle.fields.specs.Parser.{Parser, _then_, done, when}
 use Rattle.fields.specs.Fields.{number, short, f32, f64}
 

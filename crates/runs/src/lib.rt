@@ -4,7 +4,6 @@ mod paths;
 mod records;
 mod shapes;
 
-pub use paths::PathCodes;
 pub use paths::PathRead;
 pub use paths::read_path;
 pub use records::RestartRead;
@@ -13,6 +12,5 @@ pub use records::TransportRead;
 pub use records::read_restart;
 pub use records::read_settings;
 pub use records::read_transport;
-pub use shapes::ShapeCodes;
 pub use shapes::ShapeRead;
 pub use shapes::read_shape;

@@ -11,7 +11,7 @@ use Rattle.runner.proofs.edits.shape_reply.Tie as tie
 returns : tie.Need-returns
 unfolding callNumbers
 returns c =
-    let i = c .before .before .before .before .before in
+    let i = c .before .before .before in
     let n = i .before .before .before in
     let s = n .before .before in
     let r = shape-call (now (s .args .run)) (n .read-shape .ensures) in

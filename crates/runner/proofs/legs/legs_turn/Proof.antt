@@ -11,12 +11,12 @@ use Rattle.runner.proofs.legs.legs_turn.Tie as tie
 
 measure-requires : tie.Need-measure-requires
 measure-requires c κs =
-    let i = c .before .before .before in
+    let i = c .before .before in
     i .before .before .before .before .before .before .pre
 
 returns : tie.Need-returns
 returns c =
-    let i = c .before .before .before .before .before .before in
+    let i = c .before .before .before .before .before in
     let n = i .before .before .before in
     let s = n .before .before .before in
     let run = now (s .args .run) in

@@ -20,12 +20,12 @@ slice-aggregate-write-lists c =
 
 array-share-prefix-lengths : tie.Need-array-share-prefix-lengths
 array-share-prefix-lengths c =
-    let w = few _ _ _ (c .before .before .before .before .before .evaluate-legs .ensures) in
+    let w = few _ (c .before .before .before .before .before .evaluate-legs .ensures) in
     omega (arith, w .most, w .long)
 
 slice-aggregate-write-lists-2 : tie.Need-slice-aggregate-write-lists-2
 slice-aggregate-write-lists-2 c =
-    let w = few _ _ _ (c .before .before .before .before .before .before .evaluate-legs .ensures) in
+    let w = few _ (c .before .before .before .before .before .before .evaluate-legs .ensures) in
     simp length-take (omega (arith, w .most, w .long))
 
 write-lists-requires : tie.Need-write-lists-requires
@@ -33,7 +33,7 @@ write-lists-requires c κs =
     let r = c .before .before .before .before .before .before .before in
     let small = how-many-small (r .evaluate-legs .result .answer) in (
       simp length-take (omega (arith, small, c .before .before .before .before .how-many .ensures)),
-      simp length-take (omega (arith, few _ _ _ (r .evaluate-legs .ensures) .most)),
+      simp length-take (omega (arith, few _ (r .evaluate-legs .ensures) .most)),
       omega arith,
     )
 
@@ -44,9 +44,7 @@ returns c =
     let a = s .args in
     λ run. rw (c .turn-of .ensures)
     (legs-turned
-    (a .points)
-    (a .count)
-    (a .closed)
+    (a .c)
     (r .evaluate-legs .ensures)
     (a .p)
     (s .pre)

@@ -11,11 +11,11 @@ use Rattle.runner.proofs.values.path_at_reply.Tie as tie
 returns : tie.Need-returns
 unfolding numbers stateAfter
 returns c =
-    let i = c .before .before .before .before .before in
+    let i = c .before .before .before .before in
     let x = i .before .before .before in
     let n = x .before in
     let s = n .before .before in
-    let said = rw (c .before .before .evaluate-path .ensures) at (c .before .place-says .ensures) in
+    let said = rw (c .before .before .evaluate-path .ensures) at (c .before .path-says .ensures) in
     let r = path-at-call (now (s .args .run)) (n .read-path .ensures) (x .read-f32 .ensures) in
     rw (c .unchanged .ensures) (replies-read (now (s .args .run)) (s .args .p) r (i .if1 .taken) _ refl refl (says-answers said refl refl (s .pre) _))
 

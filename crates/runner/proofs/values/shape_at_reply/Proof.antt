@@ -11,11 +11,11 @@ use Rattle.runner.proofs.values.shape_at_reply.Tie as tie
 returns : tie.Need-returns
 unfolding numbers stateAfter
 returns c =
-    let i = c .before .before .before .before .before .before in
+    let i = c .before .before .before .before in
     let x = i .before .before .before in
     let n = x .before in
     let s = n .before .before in
-    let said = rw (c .before .before .evaluate-shape .ensures) at (c .before .value-says .ensures) in
+    let said = rw (c .before .before .evaluate-shape .ensures) at (c .before .shape-says .ensures) in
     let r = shape-at-call (now (s .args .run)) (n .read-shape .ensures) (x .read-f32 .ensures) in
     rw (c .unchanged .ensures) (replies-read (now (s .args .run)) (s .args .p) r (i .if1 .taken) _ refl refl (says-answers said refl refl (s .pre) _))
 
