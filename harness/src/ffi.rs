@@ -125,13 +125,13 @@ pub fn number_write(out: &mut [u8], at: usize, n: u64) -> u64 {
     unsafe { written::number_write(out.as_mut_ptr(), out.len(), at, n) }
 }
 
-mod oracle {
+mod runner {
     unsafe extern "C" {
         pub fn lfo_run(_: *const u8, _: usize, _: *mut u8, _: usize) -> u64;
     }
 }
 
-/// `lfo_run` of crates/oracle, as docs/RUN.md says.
+/// `lfo_run` of crates/runner, as docs/RUN.md says.
 pub fn lfo_run(run: &[u8], out: &mut [u8]) -> u64 {
-    unsafe { oracle::lfo_run(run.as_ptr(), run.len(), out.as_mut_ptr(), out.len()) }
+    unsafe { runner::lfo_run(run.as_ptr(), run.len(), out.as_mut_ptr(), out.len()) }
 }
