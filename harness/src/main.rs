@@ -42,7 +42,7 @@ use values::Values;
 
 type Compare = fn(&mut Tally, &mut Values);
 
-/// Each subject with the number of values of a short run, which takes about a minute.
+/// Each subject with the number of values of a short run.
 const SUBJECTS: [(&str, Compare, u64); 4] = [
     ("floats", floats::compare, 50_000_000),
     ("bend", bend::compare, 50_000_000),
