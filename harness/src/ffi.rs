@@ -22,24 +22,18 @@ on_numbers! {
     float_min_f32(x: f32, y: f32) -> f32;
     float_clamp_f32(x: f32, lo: f32, hi: f32) -> f32;
     float_max_f64(x: f64, y: f64) -> f64;
-    float_min_f64(x: f64, y: f64) -> f64;
     float_clamp_f64(x: f64, lo: f64, hi: f64) -> f64;
     float_trunc(x: f64) -> f64;
     float_floor(x: f64) -> f64;
     float_ceil(x: f64) -> f64;
     float_round(x: f64) -> f64;
-    float_trunc_f32(x: f32) -> f32;
-    float_floor_f32(x: f32) -> f32;
-    float_ceil_f32(x: f32) -> f32;
     float_round_f32(x: f32) -> f32;
-    float_wrap_unit(x: f64) -> f64;
     float_bits_f64(x: f64) -> u64;
     float_f64_to_f32(x: f64) -> f32;
     float_u64_to_f32(n: u64) -> f32;
     float_f64_to_u64(x: f64) -> u64;
     float_f64_to_u32(x: f64) -> u32;
     float_f64_to_i64(x: f64) -> i64;
-    float_rem_euclid_f32(x: f32, y: f32) -> f32;
     float_rem_euclid_f64(x: f64, y: f64) -> f64;
 
     bend_strength(curve: f32) -> f32;

@@ -1,6 +1,5 @@
 -- Laws of a stretch of frames: how many values it gives, how far its anchor counts, and one frame made of the four calls of the loop. Assumes nothing.
 use mathlib.Core.Path.{_≡_, refl}
-use mathlib.Core.List.{List, [], _∷_}
 use Prim.Native.Nat.{ℕ, zero, suc, _+_, _≤_}
 use native.Mathlib.Omega.{arith}
 use lib.ListN.{length, length-append}

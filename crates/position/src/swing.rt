@@ -1,23 +1,11 @@
 // Swing over pairs of cycles.
 ghost use mathlib.Core.Path.{_≡_};
-ghost use Rattle.position.specs.Position.{intoPair, swungOf, swungBy};
+ghost use Rattle.position.specs.Position.{intoPair, swungOf};
 
 // The first cycle's share of each pair, when swinging.
 pub enum Swing {
     Off,
     First(f64),
-}
-
-impl Swing {
-    // The count, swung where there is swing.
-    pub fn swung(self, c: f64) -> f64
-        ensures { λ r. ⌜ r ≡ swungBy self c ⌝ }
-    {
-        match self {
-            Swing::Off => c,
-            Swing::First(first) => swung(c, first),
-        }
-    }
 }
 
 // How far into its pair a count r is, when the first cycle takes a of the pair's two.

@@ -1,12 +1,11 @@
 -- What each generator gives is what `Generates` promises, over plain variables. A `match` arm of two types knows the tag of its type: one of two. Assumes nothing.
-use mathlib.Core.Path.{_≡_, refl, sym, ap, subst}
+use mathlib.Core.Path.{_≡_, sym, ap, subst}
 use mathlib.Core.Logic.{_⊎_, inl, inr}
-use mathlib.Core.Bool.{Bool, true, false}
+use mathlib.Core.Bool.{true, false}
 use Prim.Native.Nat.{ℕ, _≤_}
 use native.Mathlib.Omega.{arith}
 use denote.Enum.Declared.{tagOf}
 use lib.Dec.{T}
-use lib.IntN.{ℤ}
 use lib.Ieee.{Float}
 use Rattle.shape_segments.specs.Segments.{containsOf}
 use Rattle.shape_segments.proofs.KeptSegment.{kept-segment}

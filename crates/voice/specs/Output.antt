@@ -1,6 +1,6 @@
 -- What a voice puts out: the start value, fade in and smoothing, as `post` of lfo/mod.rs has them. Assumes nothing.
 use Prim.Native.Nat.{ℕ, _+_, _-_, _^_}
-use mathlib.Core.Bool.{Bool, true, false, cond}
+use mathlib.Core.Bool.{Bool, false, cond}
 use lib.Dec.{ltb, leb}
 use lib.Ieee.{Float, eq}
 use Rattle.floatlaws.specs.Numbers.{f32-0, f32-1}

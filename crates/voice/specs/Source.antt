@@ -1,6 +1,6 @@
 -- What a voice generates from: random values held for a cycle, and the chaos state. Assumes nothing.
 use Prim.Native.Nat.{ℕ, _-_, _^_}
-use mathlib.Core.Bool.{Bool, true, false, _&&_, not, cond}
+use mathlib.Core.Bool.{Bool, true, false, cond}
 use lib.Dec.{eqb}
 use lib.IntN.{ℤ, pos, negsuc}
 use lib.Ieee.{Float, binary64, toSigned, le}
@@ -11,7 +11,6 @@ use Rattle.random.specs.Draw.{drawn}
 use Rattle.chaos.specs.declared.law.State.{State}
 use Rattle.chaos.specs.Law.{lawOf}
 use Rattle.chaos.specs.Start.{startAt}
-use Rattle.chaos.specs.Advance.{advanced}
 use Rattle.settings.specs.declared.choices.LfoType.{LfoType}
 use Rattle.settings.specs.declared.choices.LfoType.the-variants.{Drawn, Path, Lorenz, Rossler, SampleAndHold}
 use Rattle.settings.specs.declared.choices.Mode.{Mode}

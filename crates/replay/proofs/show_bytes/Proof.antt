@@ -1,7 +1,6 @@
 -- `show_bytes` is safe and ends: the bytes that are left fall. Assumes nothing.
 use Prim.Native.Nat.{_-_}
 use borrow.Author.Needs.{needs}
-use native.Mathlib.Omega.{arith}
 use Rattle.replay.proofs.show_bytes.Statement.{statement}
 use Rattle.replay.proofs.show_bytes.Tie as tie
 

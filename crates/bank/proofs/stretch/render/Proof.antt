@@ -27,7 +27,7 @@ use Rattle.voice.specs.declared.generator.Generated.{Generated}
 use Rattle.voice.specs.Curve.{Curve, curveBy, KeptFor}
 use Rattle.voice.specs.Generate.{countAt, Generates}
 use Rattle.voice.specs.Output.{posted}
-use Rattle.voice.specs.Frame.{Frame, frameOf}
+use Rattle.voice.specs.Frame.{Frame}
 use Rattle.bank.specs.Render.{voiceAfter, outs, lastCount}
 use Rattle.bank.proofs.Frames.{length-outs, count-after, frame-is}
 use Rattle.bank.proofs.stretch.render.Statement.{statement}
