@@ -50,7 +50,7 @@ pub record Changes (p : Player) (c : Call) (r : Changed) : Type 0 where
 
 -- ---- playing a block
 
--- what a block asks that is played; `played` are the frames played after it
+-- what playing an accepted block asks; `played` are the frames played after it
 pub record Ready (p : Player) (played : ℕ) (t : Transport) (frames : ℕ) (x y : List Float) : Type 0 where
   pub valid : Valid p
   pub settings-in : SettingsIn (p .slot .lfo .settings)
