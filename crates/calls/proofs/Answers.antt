@@ -38,8 +38,8 @@ first-number n (q ∷ before) rest y = rw (y .0) (first-number n before rest (y 
 numbered : (p : State) (c : Call) → Numbered (questions p c)
 unfolding questions settingsQuestions shapeQuestions pathQuestions busQuestions phaseQuestions blockQuestions
 numbered p (settings c) = (lit< tt, (lit< tt, (lit< tt, tt)))
-numbered p (shape points count loopback) = (lit< tt, (lit< tt, (lit< tt, (lit< tt, tt))))
-numbered p (path points count closed) = (lit< tt, (lit< tt, (lit< tt, tt)))
+numbered p (shape c) = (lit< tt, (lit< tt, (lit< tt, (lit< tt, tt))))
+numbered p (path c) = (lit< tt, (lit< tt, (lit< tt, tt)))
 numbered p (bus k value) = (lit< tt, (lit< tt, tt))
 numbered p (phase t) = (lit< tt, (lit< tt, (lit< tt, tt)))
 numbered p (block t frames restart x y) = (lit< tt, (lit< tt, (lit< tt, (lit< tt, (lit< tt, tt)))))

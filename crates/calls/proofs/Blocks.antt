@@ -11,7 +11,7 @@ use lib.Seq.{take-at, drop-at}
 use lib.Ieee.{Float}
 use Rattle.settings.specs.declared.record.Settings.{Settings}
 use Rattle.settings.specs.declared.record.Transport.{Transport}
-use Rattle.settings.specs.declared.record.TransportCodes.{TransportCodes}
+use Rattle.codes.specs.declared.TransportCodes.{TransportCodes}
 use Rattle.settings.specs.declared.record.TransportCode.{TransportCode}
 use Rattle.settings.specs.declared.record.TransportCode.the-variants as TransportCode
 use Rattle.settings.specs.Codes.{transportAt}
@@ -33,7 +33,7 @@ use Rattle.bank.specs.declared.parts.Pending.the-variants.{None, At}
 use Rattle.bank.specs.Parts.{begun, restarted, partsOuts}
 use Rattle.bank.proofs.Frames.{length-outs}
 use Rattle.slot.specs.Slot.{slotCurve}
-use Rattle.questions.specs.declared.RestartCodes.{RestartCodes}
+use Rattle.codes.specs.declared.RestartCodes.{RestartCodes}
 use Rattle.questions.proofs.Facts.{BlockAccepted, block-accepted}
 use Rattle.calls.specs.State.{State}
 use Rattle.calls.specs.Blocks.{pendingOf, playedState, values}

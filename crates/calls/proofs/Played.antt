@@ -5,7 +5,7 @@ use mathlib.Core.Bool.{Bool, true, false, cond}
 use mathlib.Core.List.{List, [], _∷_}
 use native.Mathlib.Nat.{add-zero, zero-add, add-assoc}
 use lib.ListN.{length}
-use Rattle.settings.specs.declared.record.SettingsCodes.{SettingsCodes}
+use Rattle.codes.specs.declared.SettingsCodes.{SettingsCodes}
 use Rattle.settings.specs.declared.record.SettingsCode.{SettingsCode}
 use Rattle.settings.specs.declared.record.SettingsCode.the-variants as SettingsCode
 use Rattle.settings.specs.Codes.{settingsAt}
@@ -35,8 +35,8 @@ block-played p q false frames e = sym (add-zero (p .played))
 pub call-counts : CallCounts
 unfolding step accepted withShape withPath withBus playedState
 call-counts p (settings c) = none-played p _ (accepts p (settings c)) (settings-played p (settingsAt c))
-call-counts p (shape points count loopback) = none-played p _ (accepts p (shape points count loopback)) refl
-call-counts p (path points count closed) = none-played p _ (accepts p (path points count closed)) refl
+call-counts p (shape c) = none-played p _ (accepts p (shape c)) refl
+call-counts p (path c) = none-played p _ (accepts p (path c)) refl
 call-counts p (bus k value) = none-played p _ (accepts p (bus k value)) refl
 call-counts p (phase t) = none-played p p (accepts p (phase t)) refl
 call-counts p (block c frames restart x y) =

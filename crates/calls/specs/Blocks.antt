@@ -13,7 +13,7 @@ use Rattle.bank.specs.declared.parts.Pending.the-variants as Pending
 use Rattle.bank.specs.Parts.{partsVoice, partsOuts, partsCount, finishedOf}
 use Rattle.slot.specs.Slot.{slotCurve, clockedLfo}
 use Rattle.curves.specs.Given.{isYes}
-use Rattle.questions.specs.declared.RestartCodes.{RestartCodes}
+use Rattle.codes.specs.declared.RestartCodes.{RestartCodes}
 use Rattle.calls.specs.State.{State}
 
 -- the restart that a block carries, if any
@@ -46,5 +46,5 @@ module _ (p : State) (t : Transport) (frames : ℕ) (at : Pending) where
   finished = finishedOf (p .lfo .settings .mode) (partsCount (p .lfo .settings) curve (prepared .block) frames (p .voice) at)
 
 -- the phase, 0 to 1, at the transport t
-unfoldable pub phaseOf : State → Transport → Float
-phaseOf p t = phaseRead (p .lfo .settings) (p .lfo .clock) (p .voice .anchor) t
+unfoldable pub phaseAt : State → Transport → Float
+phaseAt p t = phaseRead (p .lfo .settings) (p .lfo .clock) (p .voice .anchor) t

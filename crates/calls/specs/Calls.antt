@@ -6,21 +6,20 @@ use lib.Dec.{eqb}
 use lib.ListN.{length, drop}
 use lib.Ieee.{Float}
 use Rattle.settings.specs.declared.record.Settings.{Settings}
-use Rattle.settings.specs.declared.record.SettingsCodes.{SettingsCodes}
+use Rattle.codes.specs.declared.SettingsCodes.{SettingsCodes}
 use Rattle.settings.specs.declared.record.SettingsCode.{SettingsCode}
 use Rattle.settings.specs.declared.record.SettingsCode.the-variants as SettingsCode
 use Rattle.settings.specs.declared.record.Transport.{Transport}
-use Rattle.settings.specs.declared.record.TransportCodes.{TransportCodes}
+use Rattle.codes.specs.declared.TransportCodes.{TransportCodes}
 use Rattle.settings.specs.declared.record.TransportCode.{TransportCode}
 use Rattle.settings.specs.declared.record.TransportCode.the-variants as TransportCode
 use Rattle.settings.specs.Codes.{settingsAt, transportAt}
 use Rattle.settings.specs.Records.{defaultSettings}
 use Rattle.voice.specs.Frame.{Frame}
-use Rattle.curves.specs.declared.PointCodes.{PointCodes}
-use Rattle.curves.specs.declared.PathPointCodes.{PathPointCodes}
-use Rattle.curves.specs.declared.LoopbackCodes.{LoopbackCodes}
+use Rattle.codes.specs.declared.ShapeCodes.{ShapeCodes}
+use Rattle.codes.specs.declared.PathCodes.{PathCodes}
 use Rattle.curves.specs.Given.{givenShape, givenPath}
-use Rattle.questions.specs.declared.RestartCodes.{RestartCodes}
+use Rattle.codes.specs.declared.RestartCodes.{RestartCodes}
 use Rattle.questions.specs.Questions.{Question, firstNo, settingsQuestions, shapeQuestions, pathQuestions, busQuestions, phaseQuestions, blockQuestions}
 use Rattle.calls.specs.State.{State, newState, withSettings, withShape, withPath, withBus}
 use Rattle.calls.specs.Blocks.{pendingOf, playedState, values}
@@ -28,8 +27,8 @@ use Rattle.calls.specs.Blocks.{pendingOf, playedState, values}
 -- A call on a player, with all that it is handed. A block has the two buffers as they are before it.
 pub data Call : Type 0 where
   settings : SettingsCodes → Call
-  shape : List PointCodes → ℕ → LoopbackCodes → Call
-  path : List PathPointCodes → ℕ → ℕ → Call
+  shape : ShapeCodes → Call
+  path : PathCodes → Call
   bus : ℕ → Float → Call
   phase : TransportCodes → Call
   block : TransportCodes → ℕ → RestartCodes → List Float → List Float → Call
@@ -37,8 +36,8 @@ pub data Call : Type 0 where
 -- the questions that are put to it
 unfoldable pub questions : State → Call → List Question
 questions p (settings c) = settingsQuestions c
-questions p (shape points count loopback) = shapeQuestions true points count loopback
-questions p (path points count closed) = pathQuestions true points count closed
+questions p (shape c) = shapeQuestions true c
+questions p (path c) = pathQuestions true c
 questions p (bus k value) = busQuestions k value
 questions p (phase t) = phaseQuestions t
 questions p (block t frames restart x y) = blockQuestions (p .played) t frames restart (length x) (length y)
@@ -76,8 +75,8 @@ made c seed = cond (makes c) (bySettings (noPlayer seed) (settingsAt c) (λ s. n
 -- where it is accepted
 unfoldable pub accepted : State → Call → State
 accepted p (settings c) = bySettings p (settingsAt c) (withSettings p)
-accepted p (shape points count loopback) = withShape p (givenShape points count loopback)
-accepted p (path points count closed) = withPath p (givenPath points count closed)
+accepted p (shape c) = withShape p (givenShape c)
+accepted p (path c) = withPath p (givenPath c)
 accepted p (bus k value) = withBus p k value
 accepted p (phase t) = p
 accepted p (block c frames restart x y) = byTransport p (transportAt c) λ t. playedState p t frames (pendingOf restart)

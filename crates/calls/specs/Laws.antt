@@ -1,21 +1,20 @@
 -- What document 01 says of every call, as statements about the definitions of Calls. They are proved in proofs/. Assumes nothing.
 use Prim.Native.Nat.{ℕ, _+_}
-use mathlib.Core.Path.{_≡_, refl}
+use mathlib.Core.Path.{_≡_}
 use mathlib.Core.Bool.{true, false, cond}
 use mathlib.Core.List.{List, [], _∷_, _++_}
 use lib.ListN.{length, getD, take, drop}
-use lib.Ieee.{Float, nan, eq, neg, ofBits}
-use Rattle.floatlaws.specs.Numbers.{f32-0}
-use Rattle.settings.specs.declared.record.SettingsCodes.{SettingsCodes}
+use lib.Ieee.{Float, nan, eq}
+use Rattle.codes.specs.declared.SettingsCodes.{SettingsCodes}
 use Rattle.settings.specs.declared.record.Transport.{Transport}
-use Rattle.settings.specs.declared.record.TransportCodes.{TransportCodes}
+use Rattle.codes.specs.declared.TransportCodes.{TransportCodes}
 use Rattle.settings.specs.declared.record.TransportCode.the-variants as TransportCode
 use Rattle.settings.specs.Codes.{transportAt}
 use Rattle.clock.specs.declared.block.SongLock.the-variants as SongLock
 use Rattle.clock.specs.Free.{anchoredClock}
 use Rattle.clock.specs.Ready.{paceAt, lockAt}
 use Rattle.voice.specs.Frame.{Frame}
-use Rattle.questions.specs.declared.RestartCodes.{RestartCodes}
+use Rattle.codes.specs.declared.RestartCodes.{RestartCodes}
 use Rattle.questions.specs.Questions.{Question, firstNo, blockQuestions}
 use Rattle.calls.specs.State.{State}
 use Rattle.calls.specs.Blocks.{pendingOf, values}
@@ -91,8 +90,8 @@ ClockCounts =
 -- those of one call: a block's, where it is accepted
 abbrev pub framesOf : State → Call → ℕ
 framesOf p (settings c) = 0
-framesOf p (shape points count loopback) = 0
-framesOf p (path points count closed) = 0
+framesOf p (shape c) = 0
+framesOf p (path c) = 0
 framesOf p (bus k value) = 0
 framesOf p (phase t) = 0
 framesOf p (block c frames restart x y) = cond (accepts p (block c frames restart x y)) frames 0
@@ -118,7 +117,7 @@ ListCounts = (codes : SettingsCodes) (seed : ℕ) (calls : List Call) → Counts
 -- ---- one bus
 
 pub record BusSet (p : State) (k : ℕ) (value : Float) : Type 0 where
-  -- "A bus set to a value equal to the stored one .. keeps the stored bits"
+  -- "A bus set to a value equal to the stored one, 0 and −0 included, keeps the stored bits": `zeros` of Vectors
   pub equal : eq (getD (p .lfo .buses) k nan) value ≡ true → step p (bus k value) ≡ p
   -- any other value is stored
   pub other : accepts p (bus k value) ≡ true → eq (getD (p .lfo .buses) k nan) value ≡ false → getD (step p (bus k value) .lfo .buses) k nan ≡ value
@@ -128,8 +127,3 @@ pub record BusSet (p : State) (k : ℕ) (value : Float) : Type 0 where
 
 abbrev pub BusLaw : Type 0
 BusLaw = (p : State) (k : ℕ) (value : Float) → length (p .lfo .buses) ≡ 16 → BusSet p k value
-
--- "0 and −0 included"
-zeros : eq f32-0 (neg f32-0) ∷ eq (neg f32-0) f32-0 ∷ [] ≡ true ∷ true ∷ []
-unfolding eq neg ofBits
-zeros = refl

@@ -2,3 +2,4 @@ pub mod State
 pub mod Blocks
 pub mod Calls
 pub mod Laws
+pub mod Vectors

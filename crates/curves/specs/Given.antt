@@ -1,5 +1,4 @@
--- A shape and a path as a call hands them in: `count` points, of which an array holds the first 64. Of a code that question 1 refuses nothing is meant: it counts as absent, or
--- as no. Assumes nothing.
+-- The shape and the path that codes stand for: of `count` points the first 64. Of a code that question 1 refuses nothing is meant: it counts as absent, or as no. Assumes nothing.
 use Prim.Native.Nat.{ℕ, min}
 use mathlib.Core.Bool.{Bool, cond}
 use mathlib.Core.List.{List}
@@ -18,10 +17,12 @@ use Rattle.shape.specs.Shapes.{newShape, withLoopback}
 use Rattle.path.specs.declared.PathPoint.{PathPoint}
 use Rattle.path.specs.declared.Path.{Path}
 use Rattle.path.specs.Paths.{blankPathPoint, pathOf}
-use Rattle.curves.specs.declared.ModCodes.{ModCodes}
-use Rattle.curves.specs.declared.PointCodes.{PointCodes}
-use Rattle.curves.specs.declared.PathPointCodes.{PathPointCodes}
-use Rattle.curves.specs.declared.LoopbackCodes.{LoopbackCodes}
+use Rattle.codes.specs.declared.ModCodes.{ModCodes}
+use Rattle.codes.specs.declared.PointCodes.{PointCodes}
+use Rattle.codes.specs.declared.PathPointCodes.{PathPointCodes}
+use Rattle.codes.specs.declared.LoopbackCodes.{LoopbackCodes}
+use Rattle.codes.specs.declared.ShapeCodes.{ShapeCodes}
+use Rattle.codes.specs.declared.PathCodes.{PathCodes}
 
 abbrev pub isYes : ℕ → Bool
 isYes code = eqb code 1
@@ -48,8 +49,8 @@ givenPoints points n = padded 64 blank (tabulate (λ i. pointOf (getD points i n
 unfoldable pub loopbackOf : LoopbackCodes → Loopback
 loopbackOf c = cond (isYes (c .code)) (Loopback.At (c .index)) Loopback.None
 
-unfoldable pub givenShape : List PointCodes → ℕ → LoopbackCodes → Shape
-givenShape points count loopback = withLoopback (newShape (givenPoints points (min count 64)) count) (loopbackOf loopback)
+unfoldable pub givenShape : ShapeCodes → Shape
+givenShape c = withLoopback (newShape (givenPoints (c .points) (min (c .count) 64)) (c .count)) (loopbackOf (c .loopback))
 
 -- ---- a path
 
@@ -62,5 +63,5 @@ pathPointOf c = record { x = c .x; y = c .y; bend = c .bend; «x_mod» = modOf (
 unfoldable pub givenPathPoints : List PathPointCodes → ℕ → List PathPoint
 givenPathPoints points n = padded 64 blankPathPoint (tabulate (λ i. pathPointOf (getD points i noPathPointCodes)) n)
 
-unfoldable pub givenPath : List PathPointCodes → ℕ → ℕ → Path
-givenPath points count closed = pathOf (givenPathPoints points (min count 64)) count (isYes closed)
+unfoldable pub givenPath : PathCodes → Path
+givenPath c = pathOf (givenPathPoints (c .points) (min (c .count) 64)) (c .count) (isYes (c .closed))

@@ -1,4 +1,10 @@
-// A shape and a path as a call hands them in: points as codes and numbers.
+// The shape and the path that a call hands in as codes and numbers.
+use codes::LoopbackCodes;
+use codes::ModCodes;
+use codes::PathCodes;
+use codes::PathPointCodes;
+use codes::PointCodes;
+use codes::ShapeCodes;
 use path::Path;
 use path::PathPoint;
 use points::MAX_POINTS;
@@ -12,38 +18,6 @@ ghost use lib.ListN.{replicate};
 ghost use Rattle.shape.specs.Points.{blank};
 ghost use Rattle.path.specs.Paths.{blankPath};
 ghost use Rattle.curves.specs.Given.{isYes, modOf, pointOf, givenPoints, loopbackOf, givenShape, pathPointOf, givenPathPoints, givenPath};
-
-// A point-modulation input as a code, 0 where it is absent and 1 where it is present, and its fields.
-pub struct ModCodes {
-    pub code: u64,
-    pub bus: u8,
-    pub depth: f32,
-}
-
-// One point of a shape.
-pub struct PointCodes {
-    pub x: f32,
-    pub y: f32,
-    pub curve: f32,
-    pub step: u64,
-    pub x_mod: ModCodes,
-    pub y_mod: ModCodes,
-}
-
-// One point of a path.
-pub struct PathPointCodes {
-    pub x: f32,
-    pub y: f32,
-    pub bend: f32,
-    pub x_mod: ModCodes,
-    pub y_mod: ModCodes,
-}
-
-// A loopback point as a code, 0 where it is absent and 1 where it is present, and its index.
-pub struct LoopbackCodes {
-    pub code: u64,
-    pub index: u64,
-}
 
 // Whether a yes or no is a yes.
 fn is_yes(code: u64) -> bool
@@ -118,13 +92,14 @@ fn loopback_of(c: LoopbackCodes) -> Loopback
     }
 }
 
-// A shape of `count` points: the first 64 of them, with which `points` begins.
-pub fn shape_of(points: [PointCodes; MAX_POINTS], count: usize, loopback: LoopbackCodes) -> Shape
-    ensures { λ r. ⌜ (r ≡ givenShape points count loopback) × (r .len ≤ 64) ⌝ }
+pub fn shape_of(c: ShapeCodes) -> Shape
+    ensures { λ r. ⌜ (r ≡ givenShape c) × (r .len ≤ 64) ⌝ }
 {
-    let given = given_points(points, points::kept(count));
+    let points = c.points;
+    let loopback = c.loopback;
+    let given = given_points(points, points::kept(c.count));
     let at = loopback_of(loopback);
-    Shape::new(given, count).set_loopback(at)
+    Shape::new(given, c.count).set_loopback(at)
 }
 
 // ---- a path
@@ -168,10 +143,10 @@ fn given_path_points(points: [PathPointCodes; MAX_POINTS], n: usize) -> [PathPoi
     out
 }
 
-// A path of `count` points: the first 64 of them, with which `points` begins.
-pub fn path_of(points: [PathPointCodes; MAX_POINTS], count: usize, closed: u64) -> Path
-    ensures { λ r. ⌜ (r ≡ givenPath points count closed) × (r .len ≤ 64) ⌝ }
+pub fn path_of(c: PathCodes) -> Path
+    ensures { λ r. ⌜ (r ≡ givenPath c) × (r .len ≤ 64) ⌝ }
 {
-    let given = given_path_points(points, points::kept(count));
-    Path::new(given, count, is_yes(closed))
+    let points = c.points;
+    let given = given_path_points(points, points::kept(c.count));
+    Path::new(given, c.count, is_yes(c.closed))
 }

@@ -4,33 +4,33 @@ use mathlib.Core.Path.{_≡_, refl, sym, ap, _∙_}
 use mathlib.Core.List.{List, [], _∷_}
 use lib.Ieee.{Float}
 use Rattle.questions.specs.Answers.{Answer}
-use Rattle.evaluate.specs.declared.Value.{Value}
-use Rattle.evaluate.specs.declared.Value.the-variants as Value
-use Rattle.evaluate.specs.declared.Place.{Place}
-use Rattle.evaluate.specs.declared.Place.the-variants as Place
-use Rattle.evaluate.specs.Values.{valueAnswer, placeAnswer}
+use Rattle.evaluate.specs.declared.ShapeResult.{ShapeResult}
+use Rattle.evaluate.specs.declared.ShapeResult.the-variants as ShapeResult
+use Rattle.evaluate.specs.declared.PathResult.{PathResult}
+use Rattle.evaluate.specs.declared.PathResult.the-variants as PathResult
+use Rattle.evaluate.specs.Values.{shapeResultAnswer, pathResultAnswer}
 
-value-case : ℕ → List Float → Value
-value-case n [] = Value.Refused n
-value-case n (v ∷ l) = Value.At v
+shape-case : ℕ → List Float → ShapeResult
+shape-case n [] = ShapeResult.Refused n
+shape-case n (v ∷ l) = ShapeResult.At v
 
-value-told : (r : Value) → value-case (valueAnswer r .number) (valueAnswer r .values) ≡ r
-unfolding valueAnswer value-case
-value-told (Value.Refused n) = refl
-value-told (Value.At v) = refl
+shape-told : (r : ShapeResult) → shape-case (shapeResultAnswer r .number) (shapeResultAnswer r .values) ≡ r
+unfolding shapeResultAnswer shape-case
+shape-told (ShapeResult.Refused n) = refl
+shape-told (ShapeResult.At v) = refl
 
-pub value-injective : (r s : Value) → valueAnswer r ≡ valueAnswer s → r ≡ s
-value-injective r s e = sym (value-told r) ∙ ap (λ (a : Answer). value-case (a .number) (a .values)) e ∙ value-told s
+pub shape-injective : (r s : ShapeResult) → shapeResultAnswer r ≡ shapeResultAnswer s → r ≡ s
+shape-injective r s e = sym (shape-told r) ∙ ap (λ (a : Answer). shape-case (a .number) (a .values)) e ∙ shape-told s
 
-place-case : ℕ → List Float → Place
-place-case n [] = Place.Refused n
-place-case n (x ∷ []) = Place.Refused n
-place-case n (x ∷ y ∷ l) = Place.At x y
+path-case : ℕ → List Float → PathResult
+path-case n [] = PathResult.Refused n
+path-case n (x ∷ []) = PathResult.Refused n
+path-case n (x ∷ y ∷ l) = PathResult.At x y
 
-place-told : (r : Place) → place-case (placeAnswer r .number) (placeAnswer r .values) ≡ r
-unfolding placeAnswer place-case
-place-told (Place.Refused n) = refl
-place-told (Place.At x y) = refl
+path-told : (r : PathResult) → path-case (pathResultAnswer r .number) (pathResultAnswer r .values) ≡ r
+unfolding pathResultAnswer path-case
+path-told (PathResult.Refused n) = refl
+path-told (PathResult.At x y) = refl
 
-pub place-injective : (r s : Place) → placeAnswer r ≡ placeAnswer s → r ≡ s
-place-injective r s e = sym (place-told r) ∙ ap (λ (a : Answer). place-case (a .number) (a .values)) e ∙ place-told s
+pub path-injective : (r s : PathResult) → pathResultAnswer r ≡ pathResultAnswer s → r ≡ s
+path-injective r s e = sym (path-told r) ∙ ap (λ (a : Answer). path-case (a .number) (a .values)) e ∙ path-told s

@@ -1,20 +1,19 @@
 // The calls that evaluate a shape and a path (document 01), unmodulated, as an editor draws them, and the legs of a path (document 02,
 // W-202). They touch no player.
-use curves::LoopbackCodes;
-use curves::PathPointCodes;
-use curves::PointCodes;
+use codes::PathCodes;
+use codes::ShapeCodes;
 use points::MAX_POINTS;
 ghost use mathlib.Core.Path.{_≡_};
-ghost use Rattle.evaluate.specs.Values.{valueAnswer, evaluatedShape, placeAnswer, evaluatedPath, evaluatedLegs};
+ghost use Rattle.evaluate.specs.Values.{shapeResultAnswer, evaluatedShape, pathResultAnswer, evaluatedPath, evaluatedLegs};
 
 // The number of the question that refused the call, or the value of a shape.
-pub enum Value {
+pub enum ShapeResult {
     Refused(u8),
     At(f32),
 }
 
 // The number of the question that refused the call, or X and Y of a path.
-pub enum Place {
+pub enum PathResult {
     Refused(u8),
     At { x: f32, y: f32 },
 }
@@ -26,48 +25,38 @@ pub struct Legs {
     pub lengths: [f32; MAX_POINTS],
 }
 
-// The value at `x` of a shape of `count` points, of which `points` begins with the first 64.
-pub fn evaluate_shape(
-    points: [PointCodes; MAX_POINTS],
-    count: usize,
-    loopback: LoopbackCodes,
-    x: f32,
-) -> Value
-    ensures { λ r. ⌜ valueAnswer r ≡ evaluatedShape points count loopback x ⌝ }
+// The value of a shape at `x`.
+pub fn evaluate_shape(c: ShapeCodes, x: f32) -> ShapeResult
+    ensures { λ r. ⌜ shapeResultAnswer r ≡ evaluatedShape c x ⌝ }
 {
     let others = questions::is_finite_f32(x);
-    let answer = questions::shape_answer(others, points, count, loopback);
+    let answer = questions::shape_answer(others, c);
     if answer != 0 {
-        return Value::Refused(answer);
+        return ShapeResult::Refused(answer);
     }
-    let s = curves::shape_of(points, count, loopback);
-    Value::At(s.value(x))
+    let s = curves::shape_of(c);
+    ShapeResult::At(s.value(x))
 }
 
-// X and Y at the time `t` of a path of `count` points, of which `points` begins with the first 64.
-pub fn evaluate_path(
-    points: [PathPointCodes; MAX_POINTS],
-    count: usize,
-    closed: u64,
-    t: f32,
-) -> Place
-    ensures { λ r. ⌜ placeAnswer r ≡ evaluatedPath points count closed t ⌝ }
+// X and Y of a path at the time `t`.
+pub fn evaluate_path(c: PathCodes, t: f32) -> PathResult
+    ensures { λ r. ⌜ pathResultAnswer r ≡ evaluatedPath c t ⌝ }
 {
     let others = questions::is_finite_f32(t);
-    let answer = questions::path_answer(others, points, count, closed);
+    let answer = questions::path_answer(others, c);
     if answer != 0 {
-        return Place::Refused(answer);
+        return PathResult::Refused(answer);
     }
-    let p = curves::path_of(points, count, closed);
+    let p = curves::path_of(c);
     let v = p.value(t);
-    Place::At { x: v.x, y: v.y }
+    PathResult::At { x: v.x, y: v.y }
 }
 
-// The lengths of the legs of a path of `count` points, of which `points` begins with the first 64.
-pub fn evaluate_legs(points: [PathPointCodes; MAX_POINTS], count: usize, closed: u64) -> Legs
-    ensures { λ r. ⌜ r ≡ evaluatedLegs points count closed ⌝ }
+// The lengths of the legs of a path.
+pub fn evaluate_legs(c: PathCodes) -> Legs
+    ensures { λ r. ⌜ r ≡ evaluatedLegs c ⌝ }
 {
-    let answer = questions::path_answer(true, points, count, closed);
+    let answer = questions::path_answer(true, c);
     if answer != 0 {
         return Legs {
             answer,
@@ -75,7 +64,7 @@ pub fn evaluate_legs(points: [PathPointCodes; MAX_POINTS], count: usize, closed:
             lengths: [0.0f32; MAX_POINTS],
         };
     }
-    let p = curves::path_of(points, count, closed);
+    let p = curves::path_of(c);
     let n = path_segments::segment_count(p.len, p.closed);
     let lengths = p.legs();
     Legs {

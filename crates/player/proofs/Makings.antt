@@ -6,7 +6,7 @@ use borrow.Author.Tests.{eqb-true}
 use lib.Dec.{eqb, lit<}
 use lib.Ieee.{isNan, ofBits}
 use Rattle.settings.specs.declared.record.Settings.{Settings}
-use Rattle.settings.specs.declared.record.SettingsCodes.{SettingsCodes}
+use Rattle.codes.specs.declared.SettingsCodes.{SettingsCodes}
 use Rattle.settings.specs.declared.record.SettingsCode.{SettingsCode}
 use Rattle.settings.specs.declared.record.SettingsCode.the-variants as SettingsCode
 use Rattle.settings.specs.Codes.{settingsAt}

@@ -4,14 +4,14 @@ use mathlib.Core.Path.{_≡_, sym, ap, _∙_}
 use mathlib.Core.List.{[], _∷_}
 use lib.Ieee.{Float}
 use Rattle.settings.specs.declared.record.Transport.{Transport}
-use Rattle.settings.specs.declared.record.TransportCodes.{TransportCodes}
+use Rattle.codes.specs.declared.TransportCodes.{TransportCodes}
 use Rattle.settings.specs.declared.record.TransportCode.the-variants as TransportCode
 use Rattle.settings.specs.Codes.{transportAt}
 use Rattle.clock.specs.Ready.{phaseRead}
 use Rattle.questions.specs.Questions.{firstNo, phaseQuestions}
 use Rattle.questions.specs.Answers.{refusal, success}
 use Rattle.calls.specs.State.{State}
-use Rattle.calls.specs.Blocks.{phaseOf}
+use Rattle.calls.specs.Blocks.{phaseAt}
 use Rattle.calls.specs.Calls.{phase, questions, answer}
 use Rattle.player.specs.Readings.{phaseAnswer}
 use Rattle.player.proofs.Answers.{accepts-it, refuses-it}
@@ -32,5 +32,5 @@ module _ (p : State) (c : TransportCodes) (a : ℕ) (asked : a ≡ firstNo (phas
 
   pub phase-at : a ≡ 0 → (t : Transport) → transportAt c ≡ TransportCode.Known t → (x : Float) → x ≡ phaseRead (p .lfo .settings) (p .lfo .clock) (p .voice .anchor) t
       → success (x ∷ []) ≡ phaseAnswer p c
-  unfolding phaseAnswer phaseOf
+  unfolding phaseAnswer phaseAt
   phase-at e t known x is = let zero : answer p (phase c) ≡ 0 = sym put ∙ e in rw (zero, known, is)

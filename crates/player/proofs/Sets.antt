@@ -18,7 +18,7 @@ use Rattle.shape.specs.Shapes.{within, shapeOf}
 use Rattle.shape.proofs.Accepted.{accepted-x}
 use Rattle.path.specs.declared.Path.{Path}
 use Rattle.settings.specs.declared.record.Settings.{Settings}
-use Rattle.settings.specs.declared.record.SettingsCodes.{SettingsCodes}
+use Rattle.codes.specs.declared.SettingsCodes.{SettingsCodes}
 use Rattle.settings.specs.declared.record.SettingsCode.the-variants as SettingsCode
 use Rattle.settings.specs.Codes.{settingsAt}
 use Rattle.settings.specs.Records.{clampedSettings}
@@ -26,9 +26,8 @@ use Rattle.slot.specs.Moved.{LoopbackIn}
 use Rattle.slot.specs.Slot.{StoredIn, ShapeIn, PathIn, BusesIn}
 use Rattle.slot.proofs.Curves.{accepted-path}
 use Rattle.slot.proofs.Slots.{clamped-in}
-use Rattle.curves.specs.declared.PointCodes.{PointCodes}
-use Rattle.curves.specs.declared.PathPointCodes.{PathPointCodes}
-use Rattle.curves.specs.declared.LoopbackCodes.{LoopbackCodes}
+use Rattle.codes.specs.declared.ShapeCodes.{ShapeCodes}
+use Rattle.codes.specs.declared.PathCodes.{PathCodes}
 use Rattle.curves.specs.Given.{isYes, givenPoints, loopbackOf, givenShape, givenPathPoints, givenPath}
 use Rattle.questions.specs.Questions.{firstNo, settingsQuestions, shapeQuestions, pathQuestions, busQuestions}
 use Rattle.questions.proofs.Facts.{settings-in, shape-accepted, bus-accepted}
@@ -88,32 +87,32 @@ within-in (Loopback.At i) n = go (ltb i n) refl
     go true e = ltb-true i n e
     go false e = tt
 
-module _ (p : Player) (v : Valid p) (points : List PointCodes) (count : ℕ) (loopback : LoopbackCodes) (a : ℕ)
-    (asked : a ≡ firstNo (shapeQuestions true points count loopback)) where
+module _ (p : Player) (v : Valid p) (c : ShapeCodes) (a : ℕ)
+    (asked : a ≡ firstNo (shapeQuestions true c)) where
   abbrev given : Shape
-  given = givenShape points count loopback
+  given = givenShape c
 
-  shape-put : a ≡ answer (stateOf p) (shape points count loopback)
+  shape-put : a ≡ answer (stateOf p) (shape c)
   unfolding answer questions
   shape-put = asked
 
-  pub shape-refused : (a ≡ 0 → ⊥) → Changes p (shape points count loopback) (record { answer = a; player = p })
+  pub shape-refused : (a ≡ 0 → ⊥) → Changes p (shape c) (record { answer = a; player = p })
   shape-refused e = refused p _ a shape-put e v
 
   given-in : a ≡ 0 → ShapeIn given
   unfolding givenShape shapeOf
   given-in e =
       record {
-        short = min-le-right count 64;
-        loopback-in = within-in (loopbackOf loopback) (min count 64);
-        moves = accepted-x (givenPoints points (min count 64)) (min count 64) (shape-accepted true points count loopback (sym asked ∙ e) .points-finite);
+        short = min-le-right (c .count) 64;
+        loopback-in = within-in (loopbackOf (c .loopback)) (min (c .count) 64);
+        moves = accepted-x (givenPoints (c .points) (min (c .count) 64)) (min (c .count) 64) (shape-accepted true c (sym asked ∙ e) .points-finite);
       }
 
   abbrev byShape : Shape → Player
   byShape s = let l = p .slot .lfo in edited p (l .settings) s (l .path) (l .buses)
 
   pub shape-set : a ≡ 0 → (s : Shape) → s ≡ given → (r : Player) → r ≡ byShape s
-      → Changes p (shape points count loopback) (record { answer = a; player = r })
+      → Changes p (shape c) (record { answer = a; player = r })
   shape-set e s is r made =
       let i = v .lfo-in in
       rw (made, is)
@@ -122,25 +121,25 @@ module _ (p : Player) (v : Valid p) (points : List PointCodes) (count : ℕ) (lo
 
 -- ---- a path
 
-module _ (p : Player) (v : Valid p) (points : List PathPointCodes) (count closed : ℕ) (a : ℕ) (asked : a ≡ firstNo (pathQuestions true points count closed)) where
+module _ (p : Player) (v : Valid p) (c : PathCodes) (a : ℕ) (asked : a ≡ firstNo (pathQuestions true c)) where
   abbrev travelled : Path
-  travelled = givenPath points count closed
+  travelled = givenPath c
 
-  path-put : a ≡ answer (stateOf p) (path points count closed)
+  path-put : a ≡ answer (stateOf p) (path c)
   unfolding answer questions
   path-put = asked
 
-  pub path-refused : (a ≡ 0 → ⊥) → Changes p (path points count closed) (record { answer = a; player = p })
+  pub path-refused : (a ≡ 0 → ⊥) → Changes p (path c) (record { answer = a; player = p })
   path-refused e = refused p _ a path-put e v
 
   travelled-in : PathIn travelled
   unfolding givenPath
-  travelled-in = accepted-path (givenPathPoints points (min count 64)) count (isYes closed)
+  travelled-in = accepted-path (givenPathPoints (c .points) (min (c .count) 64)) (c .count) (isYes (c .closed))
 
   abbrev byPath : Path → Player
   byPath s = let l = p .slot .lfo in edited p (l .settings) (l .shape) s (l .buses)
 
-  pub path-set : a ≡ 0 → (s : Path) → s ≡ travelled → (r : Player) → r ≡ byPath s → Changes p (path points count closed) (record { answer = a; player = r })
+  pub path-set : a ≡ 0 → (s : Path) → s ≡ travelled → (r : Player) → r ≡ byPath s → Changes p (path c) (record { answer = a; player = r })
   path-set e s is r made =
       let i = v .lfo-in in
       rw (made, is)

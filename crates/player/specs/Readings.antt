@@ -1,10 +1,10 @@
 -- Reading the phase. Assumes nothing.
 use mathlib.Core.List.{[], _∷_}
-use Rattle.settings.specs.declared.record.TransportCodes.{TransportCodes}
+use Rattle.codes.specs.declared.TransportCodes.{TransportCodes}
 use Rattle.settings.specs.Codes.{transportAt}
 use Rattle.questions.specs.Answers.{Answer, refusal, success, answerWith}
 use Rattle.calls.specs.State.{State}
-use Rattle.calls.specs.Blocks.{phaseOf}
+use Rattle.calls.specs.Blocks.{phaseAt}
 use Rattle.calls.specs.Calls.{phase, answer, byTransport}
 use Rattle.player.specs.declared.PhaseValue.{PhaseValue}
 use Rattle.player.specs.declared.PhaseValue.the-variants as PhaseValue
@@ -16,4 +16,4 @@ phaseValueAnswer (PhaseValue.At x) = success (x ∷ [])
 
 -- the number of the question that refuses it, or 0 and the phase
 unfoldable pub phaseAnswer : State → TransportCodes → Answer
-phaseAnswer p c = answerWith (answer p (phase c)) (byTransport [] (transportAt c) λ t. phaseOf p t ∷ [])
+phaseAnswer p c = answerWith (answer p (phase c)) (byTransport [] (transportAt c) λ t. phaseAt p t ∷ [])

@@ -1,13 +1,11 @@
 // Setting a player's settings, shape, path and buses.
 use super::Changed;
 use super::Player;
-use curves::LoopbackCodes;
-use curves::PathPointCodes;
-use curves::PointCodes;
-use points::MAX_POINTS;
+use codes::PathCodes;
+use codes::SettingsCodes;
+use codes::ShapeCodes;
 use settings::Settings;
 use settings::SettingsCode;
-use settings::SettingsCodes;
 use slot::Lfo;
 ghost use mathlib.Core.Path.{_≡_};
 ghost use Rattle.calls.specs.Calls as call;
@@ -49,21 +47,16 @@ pub fn set_settings(p: Player, c: SettingsCodes) -> Changed
     Changed { answer, player }
 }
 
-// Sets the shape: the first 64 of `count` points, and the loopback point.
-pub fn set_shape(
-    p: Player,
-    points: [PointCodes; MAX_POINTS],
-    count: usize,
-    loopback: LoopbackCodes,
-) -> Changed
+// Sets the shape: the first 64 of its points, and the loopback point.
+pub fn set_shape(p: Player, c: ShapeCodes) -> Changed
     requires { ⌜ Valid p ⌝ }
-    ensures { λ r. ⌜ Changes p (call.shape points count loopback) r ⌝ }
+    ensures { λ r. ⌜ Changes p (call.shape c) r ⌝ }
 {
-    let answer = questions::shape_answer(true, points, count, loopback);
+    let answer = questions::shape_answer(true, c);
     if answer != 0 {
         return Changed { answer, player: p };
     }
-    let shape = curves::shape_of(points, count, loopback);
+    let shape = curves::shape_of(c);
     let slot = p.slot;
     let mut lfo = slot.lfo;
     lfo.shape = shape;
@@ -71,21 +64,16 @@ pub fn set_shape(
     Changed { answer, player }
 }
 
-// Sets the path: the first 64 of `count` points, and whether it is closed.
-pub fn set_path(
-    p: Player,
-    points: [PathPointCodes; MAX_POINTS],
-    count: usize,
-    closed: u64,
-) -> Changed
+// Sets the path: the first 64 of its points, and whether it is closed.
+pub fn set_path(p: Player, c: PathCodes) -> Changed
     requires { ⌜ Valid p ⌝ }
-    ensures { λ r. ⌜ Changes p (call.path points count closed) r ⌝ }
+    ensures { λ r. ⌜ Changes p (call.path c) r ⌝ }
 {
-    let answer = questions::path_answer(true, points, count, closed);
+    let answer = questions::path_answer(true, c);
     if answer != 0 {
         return Changed { answer, player: p };
     }
-    let path = curves::path_of(points, count, closed);
+    let path = curves::path_of(c);
     let slot = p.slot;
     let mut lfo = slot.lfo;
     lfo.path = path;

@@ -1,9 +1,9 @@
 // Making a player.
 use super::Made;
 use super::Player;
+use codes::SettingsCodes;
 use settings::Settings;
 use settings::SettingsCode;
-use settings::SettingsCodes;
 use slot::Slot;
 ghost use mathlib.Core.Path.{_≡_};
 ghost use Rattle.player.specs.Promises.{firstSettings, Makes};

@@ -1,9 +1,9 @@
 // Reading the phase.
 use super::PhaseValue;
 use super::Player;
+use codes::TransportCodes;
 use settings::Transport;
 use settings::TransportCode;
-use settings::TransportCodes;
 ghost use mathlib.Core.Path.{_≡_};
 ghost use Rattle.player.specs.Player.{stateOf};
 ghost use Rattle.player.specs.Readings.{phaseValueAnswer, phaseAnswer};

@@ -2,10 +2,10 @@
 use super::Played;
 use super::Player;
 use bank::Pending;
-use questions::RestartCodes;
+use codes::RestartCodes;
+use codes::TransportCodes;
 use settings::Transport;
 use settings::TransportCode;
-use settings::TransportCodes;
 use slot::Cache;
 use slot::Slot;
 ghost use mathlib.Core.Path.{_≡_};

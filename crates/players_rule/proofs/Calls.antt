@@ -6,8 +6,8 @@ use mathlib.Core.List.{List, [], _∷_}
 use lib.Dec.{eqb}
 use lib.ListN.{take}
 use lib.Ieee.{Float}
-use Rattle.settings.specs.declared.record.TransportCodes.{TransportCodes}
-use Rattle.questions.specs.declared.RestartCodes.{RestartCodes}
+use Rattle.codes.specs.declared.TransportCodes.{TransportCodes}
+use Rattle.codes.specs.declared.RestartCodes.{RestartCodes}
 use Rattle.calls.specs.State.{State}
 use Rattle.calls.specs.Blocks.{pendingOf}
 use Rattle.calls.specs.Calls.{Call, settings, shape, path, bus, phase, block, accepts, step}
@@ -32,8 +32,8 @@ read-is y-side p t n restart x y r x′ y′ m = ap (take n) (m .y-is)
 set-heard : (side : Side) (s : State) (c : Call) (cs : List Call) → Sets c → heard side s (c ∷ cs) ≡ cond (accepts s c) [] (heard side (step s c) cs)
 unfolding heard
 set-heard side s (settings c) cs e = refl
-set-heard side s (shape points n loopback) cs e = refl
-set-heard side s (path points n closed) cs e = refl
+set-heard side s (shape c) cs e = refl
+set-heard side s (path c) cs e = refl
 set-heard side s (bus k z) cs e = refl
 set-heard side s (phase t) cs e = absurd e
 set-heard side s (block t n restart x y) cs e = absurd e
@@ -41,8 +41,8 @@ set-heard side s (block t n restart x y) cs e = absurd e
 set-window : (s : State) (c : Call) (cs : List Call) → Sets c → window s (c ∷ cs) ≡ cond (accepts s c) [] (window (step s c) cs)
 unfolding window
 set-window s (settings c) cs e = refl
-set-window s (shape points n loopback) cs e = refl
-set-window s (path points n closed) cs e = refl
+set-window s (shape c) cs e = refl
+set-window s (path c) cs e = refl
 set-window s (bus k z) cs e = refl
 set-window s (phase t) cs e = absurd e
 set-window s (block t n restart x y) cs e = absurd e

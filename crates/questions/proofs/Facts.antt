@@ -37,29 +37,30 @@ use Rattle.settings.specs.declared.choices.YesNo.{YesNo}
 use Rattle.settings.specs.declared.choices.YesNo.the-variants as YesNo
 use Rattle.settings.specs.declared.division.DivisionCode.{DivisionCode}
 use Rattle.settings.specs.declared.division.DivisionCode.the-variants as DivisionCode
-use Rattle.settings.specs.declared.times.RateCodes.{RateCodes}
+use Rattle.codes.specs.declared.RateCodes.{RateCodes}
 use Rattle.settings.specs.declared.times.RateCode.{RateCode}
 use Rattle.settings.specs.declared.times.RateCode.the-variants as RateCode
-use Rattle.settings.specs.declared.times.ScaleCodes.{ScaleCodes}
+use Rattle.codes.specs.declared.ScaleCodes.{ScaleCodes}
 use Rattle.settings.specs.declared.times.ScaleCode.{ScaleCode}
 use Rattle.settings.specs.declared.times.ScaleCode.the-variants as ScaleCode
 use Rattle.settings.specs.declared.record.Settings.{Settings}
-use Rattle.settings.specs.declared.record.SettingsCodes.{SettingsCodes}
+use Rattle.codes.specs.declared.SettingsCodes.{SettingsCodes}
 use Rattle.settings.specs.declared.record.SettingsCode.{SettingsCode}
 use Rattle.settings.specs.declared.record.SettingsCode.the-variants as SettingsCode
 use Rattle.settings.specs.declared.record.Transport.{Transport}
-use Rattle.settings.specs.declared.record.TransportCodes.{TransportCodes}
+use Rattle.codes.specs.declared.TransportCodes.{TransportCodes}
 use Rattle.settings.specs.declared.record.TransportCode.{TransportCode}
 use Rattle.settings.specs.declared.record.TransportCode.the-variants as TransportCode
 use Rattle.reach.specs.Bounds.{RateNumber, SettingsIn, PercentNumber, TransportIn}
-use Rattle.curves.specs.declared.ModCodes.{ModCodes}
-use Rattle.curves.specs.declared.PointCodes.{PointCodes}
-use Rattle.curves.specs.declared.PathPointCodes.{PathPointCodes}
-use Rattle.curves.specs.declared.LoopbackCodes.{LoopbackCodes}
+use Rattle.codes.specs.declared.ModCodes.{ModCodes}
+use Rattle.codes.specs.declared.PointCodes.{PointCodes}
+use Rattle.codes.specs.declared.LoopbackCodes.{LoopbackCodes}
+use Rattle.codes.specs.declared.ShapeCodes.{ShapeCodes}
+use Rattle.codes.specs.declared.PathCodes.{PathCodes}
 use Rattle.curves.specs.Given.{modOf, noPointCodes, noPathPointCodes, pointOf, givenPoints, loopbackOf}
-use Rattle.questions.specs.declared.RestartCodes.{RestartCodes}
+use Rattle.codes.specs.declared.RestartCodes.{RestartCodes}
 use Rattle.questions.specs.Limits.{f64-64, f64-1000, f64-768000, f64-2147483647, f64-minus2147483648}
-use Rattle.questions.specs.Tests.{every, between, rateFinite, spanFinite, smoothFinite, settingsFinite, smoothIn, modFinite, pointFinite, pathPointFinite, transportFinite, transportIn, loopbackBelow, pathPointOnPaper, pointOnGrid}
+use Rattle.questions.specs.Tests.{everyKept, every, between, rateFinite, spanFinite, smoothFinite, settingsFinite, smoothIn, modFinite, pointFinite, shapeFinite, pathFinite, transportFinite, transportIn, loopbackBelow, loopbackIn, pathPointOnPaper, pathOnPaper, pointOnGrid, shapeOnGrid}
 use Rattle.questions.specs.Questions.{Question, firstNo, settingsQuestions, shapeQuestions, pathQuestions, busQuestions, phaseQuestions, blockQuestions}
 use Rattle.questions.proofs.Laws.{and-true, three, five, seven}
 
@@ -253,12 +254,12 @@ point-finite c h =
     let all = five (finite (c .x)) (finite (c .y)) (finite (c .curve)) (modFinite (c .«x_mod»)) (modFinite (c .«y_mod»)) h in
     (yes-so (all .0), yes-so (all .1), yes-so (all .2), mod-finite (c .«x_mod») (all .3), mod-finite (c .«y_mod») (all .4))
 
-pub record ShapeAccepted (others : Bool) (points : List PointCodes) (count : ℕ) (loopback : LoopbackCodes) : Type 0 where
+pub record ShapeAccepted (others : Bool) (c : ShapeCodes) : Type 0 where
   pub others-finite : others ≡ true
-  pub points-finite : (k : ℕ) → k < min count 64 → FinitePoint (getD (givenPoints points (min count 64)) k noPoint)
-  pub index-below : loopback .code ≡ 1 → loopback .index < min count 64
-  pub loopback-kept : within (loopbackOf loopback) (min count 64) ≡ loopbackOf loopback
-  pub points-on-grid : (k : ℕ) → k < min count 64 → pointOnGrid (getD points k noPointCodes) ≡ true
+  pub points-finite : (k : ℕ) → k < min (c .count) 64 → FinitePoint (getD (givenPoints (c .points) (min (c .count) 64)) k noPoint)
+  pub index-below : c .loopback .code ≡ 1 → c .loopback .index < min (c .count) 64
+  pub loopback-kept : within (loopbackOf (c .loopback)) (min (c .count) 64) ≡ loopbackOf (c .loopback)
+  pub points-on-grid : (k : ℕ) → k < min (c .count) 64 → pointOnGrid (getD (c .points) k noPointCodes) ≡ true
 
 index-in : (c : LoopbackCodes) (n : ℕ) → loopbackBelow c n ≡ true → c .code ≡ 1 → c .index < n
 index-in c n h e = ltb-true _ _ (rw (eq-eqb (c .code) 1 e) at h)
@@ -271,39 +272,39 @@ below-kept c n = at (eqb (c .code) 1)
     at true h = rw h
     at false h = refl
 
-pub shape-accepted : (others : Bool) (points : List PointCodes) (count : ℕ) (loopback : LoopbackCodes)
-    → firstNo (shapeQuestions others points count loopback) ≡ 0 → ShapeAccepted others points count loopback
-unfolding shapeQuestions givenPoints
-shape-accepted others points count loopback h =
+pub shape-accepted : (others : Bool) (c : ShapeCodes) → firstNo (shapeQuestions others c) ≡ 0 → ShapeAccepted others c
+unfolding shapeQuestions shapeFinite loopbackIn shapeOnGrid everyKept givenPoints
+shape-accepted others c h =
     let q1 = passed 0 _ _ h in
     let q2 = passed 1 _ _ (q1 .1) in
     let q4 = passed 3 _ _ (q2 .1) in
     let q10 = passed 9 _ _ (q4 .1) in
-    let floats = and-true (every (λ k. pointFinite (getD points k noPointCodes)) (min count 64)) others (q2 .0) in
+    let n = min (c .count) 64 in
+    let floats = and-true (shapeFinite c) others (q2 .0) in
     record {
       others-finite = floats .1;
-      points-finite = λ k l. subst FinitePoint (sym (getD-padded _ 64 blank (min count 64) k noPoint l)) (point-finite _ (every-so _ _ (floats .0) k l));
-      index-below = λ e. index-in loopback (min count 64) (q4 .0) e;
-      loopback-kept = below-kept loopback (min count 64) (q4 .0);
+      points-finite = λ k l. subst FinitePoint (sym (getD-padded _ 64 blank n k noPoint l)) (point-finite _ (every-so _ _ (floats .0) k l));
+      index-below = λ e. index-in (c .loopback) n (q4 .0) e;
+      loopback-kept = below-kept (c .loopback) n (q4 .0);
       points-on-grid = λ k l. every-so _ _ (q10 .0) k l;
     }
 
 -- ---- a path
 
-pub record PathAccepted (others : Bool) (points : List PathPointCodes) (count : ℕ) : Type 0 where
+pub record PathAccepted (others : Bool) (c : PathCodes) : Type 0 where
   pub others-finite : others ≡ true
-  pub points-on-paper : (k : ℕ) → k < min count 64 → let c = getD points k noPathPointCodes in T (onPaper (c .x)) × T (onPaper (c .y))
+  pub points-on-paper : (k : ℕ) → k < min (c .count) 64 → let p = getD (c .points) k noPathPointCodes in T (onPaper (p .x)) × T (onPaper (p .y))
 
-pub path-accepted : (others : Bool) (points : List PathPointCodes) (count closed : ℕ) → firstNo (pathQuestions others points count closed) ≡ 0 → PathAccepted others points count
-unfolding pathQuestions
-path-accepted others points count closed h =
+pub path-accepted : (others : Bool) (c : PathCodes) → firstNo (pathQuestions others c) ≡ 0 → PathAccepted others c
+unfolding pathQuestions pathOnPaper everyKept
+path-accepted others c h =
     let q1 = passed 0 _ _ h in
     let q2 = passed 1 _ _ (q1 .1) in
     let q11 = passed 10 _ _ (q2 .1) in
     record {
-      others-finite = and-true (every (λ k. pathPointFinite (getD points k noPathPointCodes)) (min count 64)) others (q2 .0) .1;
+      others-finite = and-true (pathFinite c) others (q2 .0) .1;
       points-on-paper = λ k l.
-          let c = getD points k noPathPointCodes in
-          let both = and-true (onPaper (c .x)) (onPaper (c .y)) (every-so (λ i. pathPointOnPaper (getD points i noPathPointCodes)) _ (q11 .0) k l) in
+          let p = getD (c .points) k noPathPointCodes in
+          let both = and-true (onPaper (p .x)) (onPaper (p .y)) (every-so (λ i. pathPointOnPaper (getD (c .points) i noPathPointCodes)) _ (q11 .0) k l) in
           (yes-so (both .0), yes-so (both .1));
     }

@@ -34,6 +34,10 @@ no e h = sym e ∙ not-true _ h
 pub yes : {asked test : Bool} → asked ≡ test → not asked ≡ false → test ≡ true
 yes e h = sym e ∙ not-false _ h
 
+-- the test with the call's other floats
+pub also : {asked test : Bool} → asked ≡ test → (others : Bool) → (asked && others) ≡ (test && others)
+also e others = rw e
+
 pub and-true : (a b : Bool) → (a && b) ≡ true → (a ≡ true) × (b ≡ true)
 and-true true b h = (refl, h)
 and-true false b h = absurd (false≢true h)

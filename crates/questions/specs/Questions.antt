@@ -1,20 +1,17 @@
 -- The questions that are put to each call, in document 01's sequence, each with its number; the first "no" gives the answer. Assumes nothing.
-use Prim.Native.Nat.{ℕ, _+_, _^_, min}
+use Prim.Native.Nat.{ℕ, _+_, _^_}
 use mathlib.Core.Bool.{Bool, _&&_, cond}
 use mathlib.Core.List.{List, [], _∷_}
 use lib.Dec.{ltb, leb}
-use lib.ListN.{getD}
 use lib.Ieee.{Float}
 use lib.Ieee.Scale.{finite}
-use Rattle.settings.specs.declared.record.SettingsCodes.{SettingsCodes}
-use Rattle.settings.specs.declared.record.TransportCodes.{TransportCodes}
+use Rattle.codes.specs.declared.SettingsCodes.{SettingsCodes}
+use Rattle.codes.specs.declared.TransportCodes.{TransportCodes}
 use Rattle.settings.specs.Codes.{settingsKnown, transportKnown}
-use Rattle.curves.specs.declared.PointCodes.{PointCodes}
-use Rattle.curves.specs.declared.PathPointCodes.{PathPointCodes}
-use Rattle.curves.specs.declared.LoopbackCodes.{LoopbackCodes}
-use Rattle.curves.specs.Given.{noPointCodes, noPathPointCodes}
-use Rattle.questions.specs.declared.RestartCodes.{RestartCodes}
-use Rattle.questions.specs.Tests.{every, pointKnown, pathPointKnown, settingsFinite, pointFinite, pathPointFinite, transportFinite, loopbackBelow, pathPointOnPaper, pointOnGrid, smoothIn, transportIn}
+use Rattle.codes.specs.declared.ShapeCodes.{ShapeCodes}
+use Rattle.codes.specs.declared.PathCodes.{PathCodes}
+use Rattle.codes.specs.declared.RestartCodes.{RestartCodes}
+use Rattle.questions.specs.Tests.{settingsFinite, smoothIn, shapeKnown, shapeFinite, loopbackIn, shapeOnGrid, pathKnown, pathFinite, pathOnPaper, transportFinite, transportIn}
 
 -- a question's number, and whether the answer is yes
 abbrev pub Question : Type 0
@@ -29,22 +26,13 @@ firstNo (q ∷ rest) = cond (q .1) (firstNo rest) (q .0)
 unfoldable pub settingsQuestions : SettingsCodes → List Question
 settingsQuestions c = (1, settingsKnown c) ∷ (2, settingsFinite c) ∷ (5, smoothIn (c .smooth)) ∷ []
 
--- Setting or evaluating a shape of `count` points, of which min count 64 are kept. `others` says of the call's other floats that they are finite.
-unfoldable pub shapeQuestions : Bool → List PointCodes → ℕ → LoopbackCodes → List Question
-shapeQuestions others points count loopback =
-    (1, (every (λ k. pointKnown (getD points k noPointCodes)) (min count 64) && ltb (loopback .code) 2))
-    ∷ (2, (every (λ k. pointFinite (getD points k noPointCodes)) (min count 64) && others))
-    ∷ (4, loopbackBelow loopback (min count 64))
-    ∷ (10, every (λ k. pointOnGrid (getD points k noPointCodes)) (min count 64))
-    ∷ []
+-- setting or evaluating a shape; `others` says of the call's other floats that they are finite
+unfoldable pub shapeQuestions : Bool → ShapeCodes → List Question
+shapeQuestions others c = (1, shapeKnown c) ∷ (2, (shapeFinite c && others)) ∷ (4, loopbackIn c) ∷ (10, shapeOnGrid c) ∷ []
 
 -- setting or evaluating a path, and measuring its legs
-unfoldable pub pathQuestions : Bool → List PathPointCodes → ℕ → ℕ → List Question
-pathQuestions others points count closed =
-    (1, (every (λ k. pathPointKnown (getD points k noPathPointCodes)) (min count 64) && ltb closed 2))
-    ∷ (2, (every (λ k. pathPointFinite (getD points k noPathPointCodes)) (min count 64) && others))
-    ∷ (11, every (λ k. pathPointOnPaper (getD points k noPathPointCodes)) (min count 64))
-    ∷ []
+unfoldable pub pathQuestions : Bool → PathCodes → List Question
+pathQuestions others c = (1, pathKnown c) ∷ (2, (pathFinite c && others)) ∷ (11, pathOnPaper c) ∷ []
 
 -- setting one bus
 unfoldable pub busQuestions : ℕ → Float → List Question

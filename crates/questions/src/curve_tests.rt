@@ -1,18 +1,16 @@
-// Tests of a shape and a path as a call hands them in.
+// Tests of a shape and a path as a call hands them in, each of one question. A loop over points takes their array, of which it then knows the length.
 use super::floats::if_chosen;
 use super::floats::is_finite_f32;
-use curves::LoopbackCodes;
-use curves::ModCodes;
-use curves::PathPointCodes;
-use curves::PointCodes;
+use codes::LoopbackCodes;
+use codes::ModCodes;
+use codes::PathCodes;
+use codes::PathPointCodes;
+use codes::PointCodes;
+use codes::ShapeCodes;
 use points::MAX_POINTS;
 ghost use mathlib.Core.Path.{_≡_};
-ghost use mathlib.Core.Bool.{_&&_};
-ghost use Prim.Native.Nat.{min};
-ghost use lib.Dec.{ltb};
-ghost use lib.ListN.{getD};
 ghost use Rattle.curves.specs.Given.{noPointCodes, noPathPointCodes};
-ghost use Rattle.questions.specs.Tests.{every, pointKnown, pathPointKnown, modFinite, pointFinite, pathPointFinite, loopbackBelow, pathPointOnPaper, pointOnGrid};
+ghost use Rattle.questions.specs.Tests.{everyKept, pointKnown, shapeKnown, pathPointKnown, pathKnown, modFinite, pointFinite, shapeFinite, pathPointFinite, pathFinite, loopbackBelow, loopbackIn, pathPointOnPaper, pathOnPaper, pointOnGrid, shapeOnGrid};
 
 fn mod_finite(c: ModCodes) -> bool
     ensures { λ r. ⌜ r ≡ modFinite c ⌝ }
@@ -20,7 +18,7 @@ fn mod_finite(c: ModCodes) -> bool
     if_chosen(c.code == 1, is_finite_f32(c.depth))
 }
 
-// ---- points of a shape
+// ---- a shape
 
 fn point_known(c: PointCodes) -> bool
     ensures { λ r. ⌜ r ≡ pointKnown c ⌝ }
@@ -40,9 +38,8 @@ fn point_finite(c: PointCodes) -> bool
         & mod_finite(y_mod)
 }
 
-// Question 1 of a shape of `count` points: asked of those that are kept.
-pub fn shape_known(points: [PointCodes; MAX_POINTS], count: usize, loopback: LoopbackCodes) -> bool
-    ensures { λ r. ⌜ r ≡ (every (λ k. pointKnown (getD points k noPointCodes)) (min count 64) && ltb (loopback .code) 2) ⌝ }
+fn points_known(points: [PointCodes; MAX_POINTS], count: usize) -> bool
+    ensures { λ r. ⌜ r ≡ everyKept pointKnown noPointCodes points count ⌝ }
 {
     let n = points::kept(count);
     let mut all = true;
@@ -51,12 +48,19 @@ pub fn shape_known(points: [PointCodes; MAX_POINTS], count: usize, loopback: Loo
         all = all & point_known(points[i]);
         i += 1;
     }
-    all & (loopback.code < 2)
+    all
 }
 
-// Question 2. `others`: the call's other floats are finite.
-pub fn shape_finite(others: bool, points: [PointCodes; MAX_POINTS], count: usize) -> bool
-    ensures { λ r. ⌜ r ≡ (every (λ k. pointFinite (getD points k noPointCodes)) (min count 64) && others) ⌝ }
+// Question 1 of a shape.
+pub fn shape_known(c: ShapeCodes) -> bool
+    ensures { λ r. ⌜ r ≡ shapeKnown c ⌝ }
+{
+    let points = c.points;
+    points_known(points, c.count) & (c.loopback.code < 2)
+}
+
+fn points_finite(points: [PointCodes; MAX_POINTS], count: usize) -> bool
+    ensures { λ r. ⌜ r ≡ everyKept pointFinite noPointCodes points count ⌝ }
 {
     let n = points::kept(count);
     let mut all = true;
@@ -65,12 +69,34 @@ pub fn shape_finite(others: bool, points: [PointCodes; MAX_POINTS], count: usize
         all = all & point_finite(points[i]);
         i += 1;
     }
-    all & others
+    all
 }
 
-// Question 10.
-pub fn shape_on_grid(points: [PointCodes; MAX_POINTS], count: usize) -> bool
-    ensures { λ r. ⌜ r ≡ every (λ k. pointOnGrid (getD points k noPointCodes)) (min count 64) ⌝ }
+// Question 2.
+pub fn shape_finite(c: ShapeCodes) -> bool
+    ensures { λ r. ⌜ r ≡ shapeFinite c ⌝ }
+{
+    let points = c.points;
+    points_finite(points, c.count)
+}
+
+// Whether a loopback point, if present, is one of `n` points.
+fn loopback_below(c: LoopbackCodes, n: usize) -> bool
+    ensures { λ r. ⌜ r ≡ loopbackBelow c n ⌝ }
+{
+    if_chosen(c.code == 1, c.index < n as u64)
+}
+
+// Question 4.
+pub fn loopback_in(c: ShapeCodes) -> bool
+    ensures { λ r. ⌜ r ≡ loopbackIn c ⌝ }
+{
+    let loopback = c.loopback;
+    loopback_below(loopback, points::kept(c.count))
+}
+
+fn points_on_grid(points: [PointCodes; MAX_POINTS], count: usize) -> bool
+    ensures { λ r. ⌜ r ≡ everyKept pointOnGrid noPointCodes points count ⌝ }
 {
     let n = points::kept(count);
     let mut all = true;
@@ -83,14 +109,15 @@ pub fn shape_on_grid(points: [PointCodes; MAX_POINTS], count: usize) -> bool
     all
 }
 
-// Whether a loopback point, if present, is one of `n` points.
-pub fn loopback_below(c: LoopbackCodes, n: usize) -> bool
-    ensures { λ r. ⌜ r ≡ loopbackBelow c n ⌝ }
+// Question 10.
+pub fn shape_on_grid(c: ShapeCodes) -> bool
+    ensures { λ r. ⌜ r ≡ shapeOnGrid c ⌝ }
 {
-    if_chosen(c.code == 1, c.index < n as u64)
+    let points = c.points;
+    points_on_grid(points, c.count)
 }
 
-// ---- points of a path
+// ---- a path
 
 fn path_point_known(c: PathPointCodes) -> bool
     ensures { λ r. ⌜ r ≡ pathPointKnown c ⌝ }
@@ -110,9 +137,8 @@ fn path_point_finite(c: PathPointCodes) -> bool
         & mod_finite(y_mod)
 }
 
-// Question 1 of a path.
-pub fn path_known(points: [PathPointCodes; MAX_POINTS], count: usize, closed: u64) -> bool
-    ensures { λ r. ⌜ r ≡ (every (λ k. pathPointKnown (getD points k noPathPointCodes)) (min count 64) && ltb closed 2) ⌝ }
+fn path_points_known(points: [PathPointCodes; MAX_POINTS], count: usize) -> bool
+    ensures { λ r. ⌜ r ≡ everyKept pathPointKnown noPathPointCodes points count ⌝ }
 {
     let n = points::kept(count);
     let mut all = true;
@@ -121,12 +147,19 @@ pub fn path_known(points: [PathPointCodes; MAX_POINTS], count: usize, closed: u6
         all = all & path_point_known(points[i]);
         i += 1;
     }
-    all & (closed < 2)
+    all
 }
 
-// Question 2.
-pub fn path_finite(others: bool, points: [PathPointCodes; MAX_POINTS], count: usize) -> bool
-    ensures { λ r. ⌜ r ≡ (every (λ k. pathPointFinite (getD points k noPathPointCodes)) (min count 64) && others) ⌝ }
+// Question 1 of a path.
+pub fn path_known(c: PathCodes) -> bool
+    ensures { λ r. ⌜ r ≡ pathKnown c ⌝ }
+{
+    let points = c.points;
+    path_points_known(points, c.count) & (c.closed < 2)
+}
+
+fn path_points_finite(points: [PathPointCodes; MAX_POINTS], count: usize) -> bool
+    ensures { λ r. ⌜ r ≡ everyKept pathPointFinite noPathPointCodes points count ⌝ }
 {
     let n = points::kept(count);
     let mut all = true;
@@ -135,7 +168,15 @@ pub fn path_finite(others: bool, points: [PathPointCodes; MAX_POINTS], count: us
         all = all & path_point_finite(points[i]);
         i += 1;
     }
-    all & others
+    all
+}
+
+// Question 2.
+pub fn path_finite(c: PathCodes) -> bool
+    ensures { λ r. ⌜ r ≡ pathFinite c ⌝ }
+{
+    let points = c.points;
+    path_points_finite(points, c.count)
 }
 
 fn path_point_on_paper(c: PathPointCodes) -> bool
@@ -144,9 +185,8 @@ fn path_point_on_paper(c: PathPointCodes) -> bool
     leg::on_paper(c.x) & leg::on_paper(c.y)
 }
 
-// Question 11.
-pub fn path_on_paper(points: [PathPointCodes; MAX_POINTS], count: usize) -> bool
-    ensures { λ r. ⌜ r ≡ every (λ k. pathPointOnPaper (getD points k noPathPointCodes)) (min count 64) ⌝ }
+fn path_points_on_paper(points: [PathPointCodes; MAX_POINTS], count: usize) -> bool
+    ensures { λ r. ⌜ r ≡ everyKept pathPointOnPaper noPathPointCodes points count ⌝ }
 {
     let n = points::kept(count);
     let mut all = true;
@@ -156,4 +196,12 @@ pub fn path_on_paper(points: [PathPointCodes; MAX_POINTS], count: usize) -> bool
         i += 1;
     }
     all
+}
+
+// Question 11.
+pub fn path_on_paper(c: PathCodes) -> bool
+    ensures { λ r. ⌜ r ≡ pathOnPaper c ⌝ }
+{
+    let points = c.points;
+    path_points_on_paper(points, c.count)
 }

@@ -3,21 +3,20 @@ mod curve_tests;
 mod floats;
 mod settings_tests;
 
-use curve_tests::loopback_below;
+use codes::PathCodes;
+use codes::RestartCodes;
+use codes::SettingsCodes;
+use codes::ShapeCodes;
+use codes::TransportCodes;
+use curve_tests::loopback_in;
 use curve_tests::path_finite;
 use curve_tests::path_known;
 use curve_tests::path_on_paper;
 use curve_tests::shape_finite;
 use curve_tests::shape_known;
 use curve_tests::shape_on_grid;
-use curves::LoopbackCodes;
-use curves::PathPointCodes;
-use curves::PointCodes;
 pub use floats::is_finite_f32;
 pub use floats::is_finite_f64;
-use points::MAX_POINTS;
-use settings::SettingsCodes;
-use settings::TransportCodes;
 use settings_tests::settings_finite;
 use settings_tests::settings_known;
 use settings_tests::smooth_in;
@@ -29,12 +28,6 @@ ghost use mathlib.Core.Bool.{_&&_};
 ghost use lib.Dec.{ltb, leb};
 ghost use Rattle.settings.specs.Codes.{transportKnown};
 ghost use Rattle.questions.specs.Questions.{firstNo, settingsQuestions, shapeQuestions, pathQuestions, busQuestions, phaseQuestions, blockQuestions};
-
-// A restart as a code, 0 where there is none and 1 where there is one, and its frame.
-pub struct RestartCodes {
-    pub code: u64,
-    pub frame: u64,
-}
 
 // Making a player, and setting its settings.
 pub fn settings_answer(c: SettingsCodes) -> u8
@@ -53,47 +46,36 @@ pub fn settings_answer(c: SettingsCodes) -> u8
     0
 }
 
-// Setting or evaluating a shape of `count` points. `others`: the call's other floats are finite.
-pub fn shape_answer(
-    others: bool,
-    points: [PointCodes; MAX_POINTS],
-    count: usize,
-    loopback: LoopbackCodes,
-) -> u8
-    ensures { λ r. ⌜ r ≡ firstNo (shapeQuestions others points count loopback) ⌝ }
+// Setting or evaluating a shape. `others`: the call's other floats are finite.
+pub fn shape_answer(others: bool, c: ShapeCodes) -> u8
+    ensures { λ r. ⌜ r ≡ firstNo (shapeQuestions others c) ⌝ }
 {
-    let n = points::kept(count);
-    if !shape_known(points, count, loopback) {
+    if !shape_known(c) {
         return 1;
     }
-    if !shape_finite(others, points, count) {
+    if !(shape_finite(c) & others) {
         return 2;
     }
-    if !loopback_below(loopback, n) {
+    if !loopback_in(c) {
         return 4;
     }
-    if !shape_on_grid(points, count) {
+    if !shape_on_grid(c) {
         return 10;
     }
     0
 }
 
 // Setting or evaluating a path, and measuring its legs.
-pub fn path_answer(
-    others: bool,
-    points: [PathPointCodes; MAX_POINTS],
-    count: usize,
-    closed: u64,
-) -> u8
-    ensures { λ r. ⌜ r ≡ firstNo (pathQuestions others points count closed) ⌝ }
+pub fn path_answer(others: bool, c: PathCodes) -> u8
+    ensures { λ r. ⌜ r ≡ firstNo (pathQuestions others c) ⌝ }
 {
-    if !path_known(points, count, closed) {
+    if !path_known(c) {
         return 1;
     }
-    if !path_finite(others, points, count) {
+    if !(path_finite(c) & others) {
         return 2;
     }
-    if !path_on_paper(points, count) {
+    if !path_on_paper(c) {
         return 11;
     }
     0

@@ -25,8 +25,7 @@ use Rattle.shape.proofs.Slots.{length-sorted}
 use Rattle.shape.proofs.Sorted.{sorted-all}
 use Rattle.path.specs.declared.Path.{Path}
 use Rattle.slot.specs.Moved.{shapeLists}
-use Rattle.curves.specs.declared.PointCodes.{PointCodes}
-use Rattle.curves.specs.declared.LoopbackCodes.{LoopbackCodes}
+use Rattle.codes.specs.declared.ShapeCodes.{ShapeCodes}
 use Rattle.curves.specs.Given.{noPointCodes, pointOf, givenPoints, givenShape}
 use Rattle.questions.proofs.Facts.{ShapeAccepted}
 use Rattle.player.specs.declared.Player.{Player}
@@ -49,28 +48,28 @@ default-on-grid (suc zero) h = (refl, tt)
 default-on-grid (suc (suc zero)) h = (refl, tt)
 default-on-grid (suc (suc (suc k))) h = let z : ⊥ = omega arith in absurd z
 
-module _ (points : List PointCodes) (count : ℕ) (loopback : LoopbackCodes) (a : ShapeAccepted true points count loopback) where
+module _ (c : ShapeCodes) (a : ShapeAccepted true c) where
   abbrev n : ℕ
-  n = min count 64
+  n = min (c .count) 64
 
-  clamped-on-grid : (k : ℕ) → k < n → PointOnGrid (clampedPoint (getD (givenPoints points n) k noPoint))
+  clamped-on-grid : (k : ℕ) → k < n → PointOnGrid (clampedPoint (getD (givenPoints (c .points) n) k noPoint))
   unfolding givenPoints pointOf clampedPoint
   clamped-on-grid k h =
       subst (λ (q : Point). PointOnGrid (clampedPoint q)) (sym (getD-padded _ 64 blank n k noPoint h))
-      (sym (clamped-again (getD points k noPointCodes .curve)), yes-so (a .points-on-grid k h))
+      (sym (clamped-again (getD (c .points) k noPointCodes .curve)), yes-so (a .points-on-grid k h))
 
-  given-on-grid : ShapeOnGrid (givenShape points count loopback)
+  given-on-grid : ShapeOnGrid (givenShape c)
   unfolding givenShape shapeOf sortedArray
   given-on-grid k h =
-      let given = givenPoints points n in
+      let given = givenPoints (c .points) n in
       subst PointOnGrid (sym (List·getD-append (sortedPoints given n) _ noPoint k (omega (arith, length-sorted given n)))) (sorted-all given PointOnGrid n clamped-on-grid k h)
 
 -- ---- a player
 
 history-on-grid : (p : Player) → History p → ShapeOnGrid (p .slot .lfo .shape)
 history-on-grid =
-    history-stores (λ (s : Shape) (w : Path). ShapeOnGrid s) default-on-grid (λ s w points count loopback a g. given-on-grid points count loopback a)
-    (λ s w points count closed a g. g)
+    history-stores (λ (s : Shape) (w : Path). ShapeOnGrid s) default-on-grid (λ s w c a g. given-on-grid c a)
+    (λ s w c a g. g)
 
 -- ---- the strengths
 

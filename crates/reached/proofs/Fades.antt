@@ -9,7 +9,7 @@ use Rattle.floatlaws.specs.Numbers.{f32-1}
 use Rattle.settings.specs.declared.record.Settings.{Settings}
 use Rattle.settings.specs.declared.record.SettingsCode.{SettingsCode}
 use Rattle.settings.specs.declared.record.SettingsCode.the-variants as SettingsCode
-use Rattle.settings.specs.declared.record.SettingsCodes.{SettingsCodes}
+use Rattle.codes.specs.declared.SettingsCodes.{SettingsCodes}
 use Rattle.settings.specs.declared.record.TransportCode.{TransportCode}
 use Rattle.settings.specs.declared.record.TransportCode.the-variants as TransportCode
 use Rattle.settings.specs.Codes.{settingsAt, transportAt}
@@ -24,7 +24,7 @@ use Rattle.bank.specs.declared.parts.Pending.the-variants.{None}
 use Rattle.bank.specs.Render.{voiceAfter}
 use Rattle.bank.specs.Parts.{begun, partsVoice}
 use Rattle.curves.specs.Given.{isYes}
-use Rattle.questions.specs.declared.RestartCodes.{RestartCodes}
+use Rattle.codes.specs.declared.RestartCodes.{RestartCodes}
 use Rattle.calls.specs.State.{State, newState, withSettings, withShape, withPath, withBus}
 use Rattle.calls.specs.Blocks.{pendingOf, playedState}
 use Rattle.calls.specs.Calls.{Call, settings, shape, path, bus, phase, block, accepts, bySettings, byTransport, makes, noPlayer, made, accepted, step, after}
@@ -97,8 +97,8 @@ none-pending c e = rw e
 full-accepted : (p : State) (c : Call) → carries c ≡ false → Full (p .voice) → Full (accepted p c .voice)
 unfolding accepted withShape withPath withBus
 full-accepted p (settings c) e f = full-set p (settingsAt c) f
-full-accepted p (shape points n loopback) e f = f
-full-accepted p (path points n closed) e f = f
+full-accepted p (shape c) e f = f
+full-accepted p (path c) e f = f
 full-accepted p (bus k z) e f = f
 full-accepted p (phase t) e f = f
 full-accepted p (block c n r x y) e f = rw (none-pending r e) (full-played p (transportAt c) n f)

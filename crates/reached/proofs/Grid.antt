@@ -7,7 +7,7 @@ use lib.Dec.{lit<}
 use Rattle.settings.proofs.Read.{settings-read}
 use Rattle.settings.specs.Codes.{settingsAt, transportAt}
 use Rattle.settings.specs.Records.{clampedSettings}
-use Rattle.settings.specs.declared.record.SettingsCodes.{SettingsCodes}
+use Rattle.codes.specs.declared.SettingsCodes.{SettingsCodes}
 use Rattle.settings.specs.declared.record.SettingsCode.{SettingsCode}
 use Rattle.settings.specs.declared.record.SettingsCode.the-variants as SettingsCode
 use Rattle.settings.specs.declared.record.TransportCode.{TransportCode}
@@ -62,8 +62,8 @@ played-grid p TransportCode.Unknown n at g = g
 accepted-grid : (p : State) (c : Call) → GridIn c → StateGrid p → StateGrid (accepted p c)
 unfolding accepted withShape withPath withBus
 accepted-grid p (settings c) k g = set-grid p (settingsAt c) (known-grid c k) g
-accepted-grid p (shape points n loopback) k g = g
-accepted-grid p (path points n closed) k g = g
+accepted-grid p (shape c) k g = g
+accepted-grid p (path c) k g = g
 accepted-grid p (bus i z) k g = g
 accepted-grid p (phase t) k g = g
 accepted-grid p (block c n r x y) k g = played-grid p (transportAt c) n (pendingOf r) g

@@ -14,7 +14,7 @@ use Rattle.shape.specs.declared.Shape.{Shape}
 use Rattle.path.specs.declared.Path.{Path}
 use Rattle.path.specs.Paths.{noPathPoint, PointOnPaper, clampedPathPoint, clampedPath, pathOf, pathLegs, defaultPath}
 use Rattle.path.proofs.PathLegs.{legs-between}
-use Rattle.curves.specs.declared.PathPointCodes.{PathPointCodes}
+use Rattle.codes.specs.declared.PathCodes.{PathCodes}
 use Rattle.curves.specs.Given.{givenPath}
 use Rattle.questions.proofs.Facts.{PathAccepted}
 use Rattle.questions.proofs.KeptPoints.{kept-on-paper}
@@ -37,15 +37,15 @@ default-measured = record { points-on-paper = default-on-paper; legs-nearest = l
 
 -- ---- a path that is handed in
 
-given-measured : (points : List PathPointCodes) (count closed : ℕ) → PathAccepted true points count → Measured (givenPath points count closed)
+given-measured : (c : PathCodes) → PathAccepted true c → Measured (givenPath c)
 unfolding givenPath pathOf pathLegs
-given-measured points count closed a =
-    let on = kept-on-paper true points count closed a in
-    record { points-on-paper = on; legs-nearest = legs-between (givenPath points count closed) on; times-are = refl }
+given-measured c a =
+    let on = kept-on-paper true c a in
+    record { points-on-paper = on; legs-nearest = legs-between (givenPath c) on; times-are = refl }
 
 -- ---- a player
 
 pub legs-nearest : LegsNearest
 legs-nearest =
-    history-stores (λ (s : Shape) (w : Path). Measured w) default-measured (λ s w points count loopback a m. m)
-    (λ s w points count closed a m. given-measured points count closed a)
+    history-stores (λ (s : Shape) (w : Path). Measured w) default-measured (λ s w c a m. m)
+    (λ s w c a m. given-measured c a)

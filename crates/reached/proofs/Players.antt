@@ -3,7 +3,7 @@ use Prim.Native.Nat.{ℕ}
 use mathlib.Core.Path.{_≡_, refl, sym, subst}
 use lib.ListN.{length}
 use Rattle.settings.specs.declared.record.Transport.{Transport}
-use Rattle.settings.specs.declared.record.TransportCodes.{TransportCodes}
+use Rattle.codes.specs.declared.TransportCodes.{TransportCodes}
 use Rattle.settings.specs.declared.record.TransportCode.the-variants as TransportCode
 use Rattle.settings.specs.Codes.{transportAt}
 use Rattle.floatlaws.proofs.Tests.{yes-so}

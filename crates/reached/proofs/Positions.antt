@@ -14,7 +14,7 @@ use Rattle.bank.specs.declared.parts.Pending.{Pending}
 use Rattle.bank.specs.declared.parts.Pending.the-variants.{None, At}
 use Rattle.slot.proofs.Positions.{first-placed, later-placed}
 use Rattle.questions.proofs.Facts.{transport-in, phase-accepted}
-use Rattle.calls.specs.Blocks.{prepared, curve, phaseOf}
+use Rattle.calls.specs.Blocks.{prepared, curve, phaseAt}
 use Rattle.calls.specs.Calls.{questions, answer}
 use Rattle.player.specs.declared.Player.{Player}
 use Rattle.player.specs.Player.{stateOf}
@@ -62,13 +62,13 @@ positions-in p t frames at h a k l =
 -- ---- the phase
 
 pub phase-in : PhaseIn
-unfolding answer questions phaseAnswer phaseOf
+unfolding answer questions phaseAnswer phaseAt
 phase-in p c h e =
     let a = phase-accepted c e in
     let k = known-transport c a in
     let valid = reached-valid h in
     let s = p .slot in (
-      phaseOf (stateOf p) (k .0),
+      phaseAt (stateOf p) (k .0),
       rw (e, k .1) refl,
       phase-read-in (s .lfo .settings) (s .lfo .clock) (s .voice .anchor) (k .0) (p .played)
           (reached-in h) (transport-in c a (k .0) (k .1)) (valid .lfo-in .clock-in) (valid .anchor-in) (valid .within),

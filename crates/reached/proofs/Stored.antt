@@ -8,15 +8,14 @@ use Rattle.shape.specs.Shapes.{defaultShape}
 use Rattle.path.specs.declared.Path.{Path}
 use Rattle.path.specs.Paths.{defaultPath}
 use Rattle.settings.specs.Codes.{settingsAt, transportAt}
-use Rattle.settings.specs.declared.record.SettingsCodes.{SettingsCodes}
+use Rattle.codes.specs.declared.SettingsCodes.{SettingsCodes}
 use Rattle.settings.specs.declared.record.SettingsCode.{SettingsCode}
 use Rattle.settings.specs.declared.record.SettingsCode.the-variants as SettingsCode
 use Rattle.settings.specs.declared.record.TransportCode.{TransportCode}
 use Rattle.settings.specs.declared.record.TransportCode.the-variants as TransportCode
 use Rattle.bank.specs.declared.parts.Pending.{Pending}
-use Rattle.curves.specs.declared.PointCodes.{PointCodes}
-use Rattle.curves.specs.declared.PathPointCodes.{PathPointCodes}
-use Rattle.curves.specs.declared.LoopbackCodes.{LoopbackCodes}
+use Rattle.codes.specs.declared.ShapeCodes.{ShapeCodes}
+use Rattle.codes.specs.declared.PathCodes.{PathCodes}
 use Rattle.curves.specs.Given.{givenShape, givenPath}
 use Rattle.questions.proofs.Facts.{ShapeAccepted, shape-accepted, PathAccepted, path-accepted}
 use Rattle.calls.specs.State.{State, newState, withSettings, withShape, withPath, withBus}
@@ -28,9 +27,8 @@ use Rattle.reached.specs.Traces.{History}
 use Rattle.reached.proofs.Traces.{history-state}
 
 module _ (P : Shape → Path → Type 0) (first : P defaultShape defaultPath)
-    (shaped : (s : Shape) (w : Path) (points : List PointCodes) (count : ℕ) (loopback : LoopbackCodes)
-    → ShapeAccepted true points count loopback → P s w → P (givenShape points count loopback) w)
-    (travelled : (s : Shape) (w : Path) (points : List PathPointCodes) (count closed : ℕ) → PathAccepted true points count → P s w → P s (givenPath points count closed)) where
+    (shaped : (s : Shape) (w : Path) (c : ShapeCodes) → ShapeAccepted true c → P s w → P (givenShape c) w)
+    (travelled : (s : Shape) (w : Path) (c : PathCodes) → PathAccepted true c → P s w → P s (givenPath c)) where
   abbrev Stores : State → Type 0
   Stores p = P (p .lfo .shape) (p .lfo .path)
 
@@ -62,8 +60,8 @@ module _ (P : Shape → Path → Type 0) (first : P defaultShape defaultPath)
   accepted-stores : (p : State) (c : Call) → answer p c ≡ 0 → Stores p → Stores (accepted p c)
   unfolding accepted withShape withPath withBus answer questions
   accepted-stores p (settings c) e g = set-stores p (settingsAt c) g
-  accepted-stores p (shape points count loopback) e g = shaped _ _ points count loopback (shape-accepted true points count loopback e) g
-  accepted-stores p (path points count closed) e g = travelled _ _ points count closed (path-accepted true points count closed e) g
+  accepted-stores p (shape c) e g = shaped _ _ c (shape-accepted true c e) g
+  accepted-stores p (path c) e g = travelled _ _ c (path-accepted true c e) g
   accepted-stores p (bus i z) e g = g
   accepted-stores p (phase t) e g = g
   accepted-stores p (block c n r x y) e g = played-stores p (transportAt c) n (pendingOf r) g

@@ -10,7 +10,7 @@ use Rattle.floatlaws.specs.Whole.{InUnit}
 use Rattle.listlaws.specs.Tables.{tabulate}
 use Rattle.settings.specs.declared.record.Settings.{Settings}
 use Rattle.settings.specs.declared.record.Transport.{Transport}
-use Rattle.settings.specs.declared.record.TransportCodes.{TransportCodes}
+use Rattle.codes.specs.declared.TransportCodes.{TransportCodes}
 use Rattle.position.specs.Position.{positionOf}
 use Rattle.clock.specs.declared.block.Block.{Block}
 use Rattle.voice.specs.declared.Voice.{Voice}

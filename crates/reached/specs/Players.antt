@@ -5,12 +5,12 @@ use mathlib.Core.Bool.{Bool, false, _&&_, _||_}
 use mathlib.Core.List.{List, [], _∷_}
 use lib.Ieee.{Float}
 use Rattle.settings.specs.declared.record.Transport.{Transport}
-use Rattle.settings.specs.declared.record.TransportCodes.{TransportCodes}
+use Rattle.codes.specs.declared.TransportCodes.{TransportCodes}
 use Rattle.settings.specs.declared.record.TransportCode.the-variants as TransportCode
 use Rattle.settings.specs.Codes.{transportAt}
 use Rattle.bank.specs.declared.parts.Pending.{Pending}
 use Rattle.curves.specs.Given.{isYes}
-use Rattle.questions.specs.declared.RestartCodes.{RestartCodes}
+use Rattle.codes.specs.declared.RestartCodes.{RestartCodes}
 use Rattle.calls.specs.State.{State}
 use Rattle.calls.specs.Blocks.{pendingOf}
 use Rattle.calls.specs.Calls.{Call, settings, shape, path, bus, phase, block, answer, accepts, made, step}
@@ -23,8 +23,8 @@ use Rattle.reached.specs.Traces.{History}
 -- a grid that is handed in is a u16 of the code
 abbrev pub GridIn : Call → Type 0
 GridIn (settings c) = c .«grid_x» < 2 ^ 16
-GridIn (shape points count loopback) = Unit
-GridIn (path points count closed) = Unit
+GridIn (shape c) = Unit
+GridIn (path c) = Unit
 GridIn (bus k value) = Unit
 GridIn (phase t) = Unit
 GridIn (block t frames restart x y) = Unit
@@ -42,8 +42,8 @@ pub record Reached (p : Player) : Type 0 where
 -- "A restart is one that an accepted block carries"
 abbrev pub carries : Call → Bool
 carries (settings c) = false
-carries (shape points count loopback) = false
-carries (path points count closed) = false
+carries (shape c) = false
+carries (path c) = false
 carries (bus k value) = false
 carries (phase t) = false
 carries (block t frames restart x y) = isYes (restart .code)

@@ -3,9 +3,9 @@ use Prim.Native.Nat.{ℕ}
 use mathlib.Core.Path.{_≡_}
 use mathlib.Core.List.{List, [], _∷_}
 use lib.Ieee.{Float}
-use Rattle.settings.specs.declared.record.SettingsCodes.{SettingsCodes}
-use Rattle.settings.specs.declared.record.TransportCodes.{TransportCodes}
-use Rattle.questions.specs.declared.RestartCodes.{RestartCodes}
+use Rattle.codes.specs.declared.SettingsCodes.{SettingsCodes}
+use Rattle.codes.specs.declared.TransportCodes.{TransportCodes}
+use Rattle.codes.specs.declared.RestartCodes.{RestartCodes}
 use Rattle.calls.specs.Calls.{Call, settings, shape, path, bus, phase, block}
 use Rattle.player.specs.declared.Player.{Player}
 use Rattle.player.specs.declared.Made.{Made}
@@ -19,8 +19,8 @@ use Rattle.player.specs.Readings.{phaseValueAnswer, phaseAnswer}
 -- a call that sets settings, shape, path or a bus
 abbrev pub Sets : Call → Type 0
 Sets (settings c) = Unit
-Sets (shape points n loopback) = Unit
-Sets (path points n closed) = Unit
+Sets (shape c) = Unit
+Sets (path c) = Unit
 Sets (bus k z) = Unit
 Sets (phase t) = ⊥
 Sets (block t n restart x y) = ⊥

@@ -13,7 +13,7 @@ use Rattle.settings.specs.declared.times.Scale.{Scale}
 use Rattle.settings.specs.declared.times.ScaleCode.{ScaleCode}
 use Rattle.settings.specs.declared.times.ScaleCode.the-variants as ScaleCode
 use Rattle.settings.specs.declared.record.Transport.{Transport}
-use Rattle.settings.specs.declared.record.TransportCodes.{TransportCodes}
+use Rattle.codes.specs.declared.TransportCodes.{TransportCodes}
 use Rattle.settings.specs.declared.record.TransportCode.{TransportCode}
 use Rattle.settings.specs.declared.record.TransportCode.the-variants as TransportCode
 use Rattle.settings.specs.Choices.{yesNoAt}
@@ -21,7 +21,7 @@ use Rattle.settings.specs.Times.{scaleAt}
 use Rattle.settings.specs.Codes.{transportAt}
 use Rattle.settings.proofs.Read.{TransportRead, transport-read, transport-of}
 use Rattle.reach.specs.Bounds.{TransportIn}
-use Rattle.questions.specs.declared.RestartCodes.{RestartCodes}
+use Rattle.codes.specs.declared.RestartCodes.{RestartCodes}
 use Rattle.questions.proofs.Facts.{transport-in, block-accepted}
 use Rattle.curves.specs.Given.{isYes}
 use Rattle.calls.specs.State.{State}

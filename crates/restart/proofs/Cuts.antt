@@ -8,7 +8,7 @@ use lib.Ieee.{Float, eq}
 use borrow.Author.Tests.{eqb-true}
 use Rattle.settings.specs.declared.record.Settings.{Settings}
 use Rattle.settings.specs.declared.record.Transport.{Transport}
-use Rattle.settings.specs.declared.record.TransportCodes.{TransportCodes}
+use Rattle.codes.specs.declared.TransportCodes.{TransportCodes}
 use Rattle.clock.specs.declared.block.Block.{Block}
 use Rattle.clock.specs.declared.block.SongLock.the-variants as SongLock
 use Rattle.clock.specs.declared.free.Clock.{Clock}
@@ -18,7 +18,7 @@ use Rattle.voice.specs.declared.Voice.{Voice}
 use Rattle.voice.specs.Curve.{Curve}
 use Rattle.bank.specs.declared.parts.Pending.{Pending}
 use Rattle.bank.specs.declared.parts.Pending.the-variants.{None, At}
-use Rattle.questions.specs.declared.RestartCodes.{RestartCodes}
+use Rattle.codes.specs.declared.RestartCodes.{RestartCodes}
 use Rattle.calls.specs.State.{State}
 use Rattle.calls.specs.Blocks.{pendingOf, playedState, values}
 use Rattle.calls.specs.Calls.{Call, settings, shape, path, bus, phase, block, answer, accepts, step}
@@ -167,10 +167,10 @@ module _ (s : Settings) (q : Curve) (rate : Rate) (S : Standing s rate) where
   heard-plays side [] p d ev = (0, refl)
   heard-plays side (settings c ∷ cs) p d ev =
       edit-case side p (step p (settings c)) cs (accepts p (settings c)) (refused-player p (settings c)) d ev (heard-plays side cs)
-  heard-plays side (shape points n loopback ∷ cs) p d ev =
-      edit-case side p (step p (shape points n loopback)) cs (accepts p (shape points n loopback)) (refused-player p (shape points n loopback)) d ev (heard-plays side cs)
-  heard-plays side (path points n closed ∷ cs) p d ev =
-      edit-case side p (step p (path points n closed)) cs (accepts p (path points n closed)) (refused-player p (path points n closed)) d ev (heard-plays side cs)
+  heard-plays side (shape c ∷ cs) p d ev =
+      edit-case side p (step p (shape c)) cs (accepts p (shape c)) (refused-player p (shape c)) d ev (heard-plays side cs)
+  heard-plays side (path c ∷ cs) p d ev =
+      edit-case side p (step p (path c)) cs (accepts p (path c)) (refused-player p (path c)) d ev (heard-plays side cs)
   heard-plays side (bus k z ∷ cs) p d ev =
       edit-case side p (step p (bus k z)) cs (accepts p (bus k z)) (refused-player p (bus k z)) d ev (heard-plays side cs)
   heard-plays side (phase c ∷ cs) p d ev = refused-case side p (step p (phase c)) cs (phase-keeps p c) d ev (heard-plays side cs)

@@ -16,22 +16,22 @@ use Rattle.shape.specs.Shapes.{within, shapeOf, defaultShape}
 use Rattle.bank.specs.Render.{outs}
 use Rattle.bank.specs.Parts.{partsOuts}
 use Rattle.settings.specs.declared.choices.LfoType.the-variants.{Drawn, SampleAndHold}
-use Rattle.settings.specs.declared.times.RateCodes.{RateCodes}
-use Rattle.settings.specs.declared.times.SpanCodes.{SpanCodes}
-use Rattle.settings.specs.declared.times.ScaleCodes.{ScaleCodes}
-use Rattle.settings.specs.declared.record.SmoothCodes.{SmoothCodes}
-use Rattle.settings.specs.declared.record.SettingsCodes.{SettingsCodes}
-use Rattle.settings.specs.declared.record.TransportCodes.{TransportCodes}
+use Rattle.codes.specs.declared.RateCodes.{RateCodes}
+use Rattle.codes.specs.declared.SpanCodes.{SpanCodes}
+use Rattle.codes.specs.declared.ScaleCodes.{ScaleCodes}
+use Rattle.codes.specs.declared.SmoothCodes.{SmoothCodes}
+use Rattle.codes.specs.declared.SettingsCodes.{SettingsCodes}
+use Rattle.codes.specs.declared.TransportCodes.{TransportCodes}
 use Rattle.settings.specs.Times.{rateAt, spanAt, scaleAt, clampedRate, clampedSpan}
 use Rattle.settings.specs.Codes.{smoothAt, withSpans, withSwitches, settingsAt, transportAt, settingsKnown, transportKnown}
 use Rattle.settings.specs.Records.{clampedSettings}
-use Rattle.curves.specs.declared.ModCodes.{ModCodes}
-use Rattle.curves.specs.declared.PointCodes.{PointCodes}
-use Rattle.curves.specs.declared.LoopbackCodes.{LoopbackCodes}
+use Rattle.codes.specs.declared.ModCodes.{ModCodes}
+use Rattle.codes.specs.declared.PointCodes.{PointCodes}
+use Rattle.codes.specs.declared.LoopbackCodes.{LoopbackCodes}
 use Rattle.curves.specs.Given.{modOf, pointOf, givenPoints, loopbackOf, givenShape}
-use Rattle.questions.specs.declared.RestartCodes.{RestartCodes}
+use Rattle.codes.specs.declared.RestartCodes.{RestartCodes}
 use Rattle.questions.specs.Limits.{f64-1000}
-use Rattle.questions.specs.Tests.{every, pointKnown, pointFinite, settingsFinite, transportFinite, transportIn}
+use Rattle.questions.specs.Tests.{everyKept, shapeKnown, shapeFinite, loopbackIn, shapeOnGrid, every, pointKnown, pointFinite, settingsFinite, transportFinite, transportIn}
 use Rattle.questions.specs.Questions.{firstNo, settingsQuestions, shapeQuestions, busQuestions, phaseQuestions, blockQuestions}
 use Rattle.calls.specs.State.{newState, withSettings, withShape, withBus, movedBuses}
 use Rattle.calls.specs.Blocks.{pendingOf, playedState, values}
@@ -159,10 +159,10 @@ noLoopback = record { code = 0; index = 99 }
 
 -- the points of the default shape, not in their order
 abbrev triangle : Call
-triangle = shape (point f32-1 f32-0 ∷ point f32-0 f32-0 ∷ point f32-½ f32-1 ∷ []) 3 noLoopback
+triangle = shape (record { points = point f32-1 f32-0 ∷ point f32-0 f32-0 ∷ point f32-½ f32-1 ∷ []; count = 3; loopback = noLoopback })
 
 abbrev line : Call
-line = shape (point f32-0 f32-1 ∷ []) 1 noLoopback
+line = shape (record { points = point f32-0 f32-1 ∷ []; count = 1; loopback = noLoopback })
 
 abbrev pub never : RestartCodes
 never = record { code = 0; frame = 99 }
@@ -213,7 +213,7 @@ restart₁ =
     record { before = before₁; transport = here; frames = 4; restart = at 1; x = room; y = room; rest = rest₁; here = refl; accepted = refl; carried = refl }
 
 pub restart₂ : RestartIn (made other 2) calls₂
-unfolding after step answer questions firstNo settingsQuestions blockQuestions busQuestions settingsKnown settingsFinite transportKnown transportFinite transportIn settingsAt withSwitches withSpans rateAt spanAt smoothAt transportAt scaleAt accepted playedState withBus made newState lib.Ieee.neg le lt eq ofBits shapeQuestions phaseQuestions every pointKnown pointFinite isMultiple clampOf withSettings withShape pendingOf
+unfolding after step answer questions firstNo settingsQuestions blockQuestions busQuestions settingsKnown settingsFinite transportKnown transportFinite transportIn settingsAt withSwitches withSpans rateAt spanAt smoothAt transportAt scaleAt accepted playedState withBus made newState lib.Ieee.neg le lt eq ofBits shapeQuestions shapeKnown shapeFinite loopbackIn shapeOnGrid everyKept phaseQuestions every pointKnown pointFinite isMultiple clampOf withSettings withShape pendingOf
 restart₂ =
     record { before = before₂; transport = there; frames = 0; restart = at 7; x = room; y = room; rest = rest₂; here = refl; accepted = refl; carried = refl }
 
@@ -221,7 +221,7 @@ not-held : Drawn ≡ SampleAndHold → ⊥
 not-held e = let z : _≡_ {A = ℕ} 0 1 = cc in omega arith
 
 met : Hypotheses (atRestart (made drawn 1) calls₁ restart₁) (atRestart (made other 2) calls₂ restart₂) (rateOf here)
-unfolding restart₁ restart₂ throughout window after step answer questions firstNo settingsQuestions blockQuestions busQuestions settingsKnown settingsFinite transportKnown transportFinite transportIn settingsAt withSwitches withSpans rateAt spanAt smoothAt transportAt scaleAt accepted playedState withBus made newState lib.Ieee.neg le lt eq ofBits shapeQuestions phaseQuestions every pointKnown pointFinite isMultiple withSettings withShape pendingOf clampedSettings clampedRate clampedSpan movedBuses givenShape givenPoints pointOf modOf loopbackOf within shapeOf sortedArray sortedPoints insertPoint slotOf clampedPoint tabulate lastWhere inserted defaultShape clampOf
+unfolding restart₁ restart₂ throughout window after step answer questions firstNo settingsQuestions blockQuestions busQuestions settingsKnown settingsFinite transportKnown transportFinite transportIn settingsAt withSwitches withSpans rateAt spanAt smoothAt transportAt scaleAt accepted playedState withBus made newState lib.Ieee.neg le lt eq ofBits shapeQuestions shapeKnown shapeFinite loopbackIn shapeOnGrid everyKept phaseQuestions every pointKnown pointFinite isMultiple withSettings withShape pendingOf clampedSettings clampedRate clampedSpan movedBuses givenShape givenPoints pointOf modOf loopbackOf within shapeOf sortedArray sortedPoints insertPoint slotOf clampedPoint tabulate lastWhere inserted defaultShape clampOf
 met =
     record {
       mode = inl refl;
@@ -245,7 +245,7 @@ five x-side = refl
 five y-side = refl
 
 four : (side : Side) → length (framesFrom (made other 2) calls₂ restart₂ side) ≡ 4
-unfolding restart₂ framesFrom heard read buffer played values partsOuts outs after step answer questions firstNo settingsQuestions blockQuestions busQuestions settingsKnown settingsFinite transportKnown transportFinite transportIn settingsAt withSwitches withSpans rateAt spanAt smoothAt transportAt scaleAt accepted playedState withBus made newState lib.Ieee.neg le lt eq ofBits shapeQuestions phaseQuestions every pointKnown pointFinite isMultiple clampOf withSettings withShape pendingOf
+unfolding restart₂ framesFrom heard read buffer played values partsOuts outs after step answer questions firstNo settingsQuestions blockQuestions busQuestions settingsKnown settingsFinite transportKnown transportFinite transportIn settingsAt withSwitches withSpans rateAt spanAt smoothAt transportAt scaleAt accepted playedState withBus made newState lib.Ieee.neg le lt eq ofBits shapeQuestions shapeKnown shapeFinite loopbackIn shapeOnGrid everyKept phaseQuestions every pointKnown pointFinite isMultiple clampOf withSettings withShape pendingOf
 four x-side = refl
 four y-side = refl
 

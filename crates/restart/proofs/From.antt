@@ -19,7 +19,7 @@ use Rattle.bank.specs.declared.parts.Pending.the-variants.{None, At}
 use Rattle.bank.specs.Parts.{begun, restarted}
 use Rattle.slot.specs.declared.Lfo.{Lfo}
 use Rattle.slot.specs.Slot.{slotCurve}
-use Rattle.questions.specs.declared.RestartCodes.{RestartCodes}
+use Rattle.codes.specs.declared.RestartCodes.{RestartCodes}
 use Rattle.calls.specs.State.{State}
 use Rattle.calls.specs.Blocks.{pendingOf, playedState, values}
 use Rattle.calls.specs.Calls.{Call, block, answer, accepts}

@@ -13,7 +13,7 @@ use Rattle.floatlaws.specs.Numbers.{f32-0, f32-1}
 use Rattle.random.specs.Mix.{xorShr, nextState, finalised, mixed}
 use Rattle.random.specs.Draw.{xorShl, stepped}
 use Rattle.random.specs.Draw as random
-use Rattle.settings.specs.declared.record.SettingsCodes.{SettingsCodes}
+use Rattle.codes.specs.declared.SettingsCodes.{SettingsCodes}
 use Rattle.settings.specs.Times.{rateAt, spanAt, scaleAt, clampedRate, clampedSpan}
 use Rattle.settings.specs.Codes.{smoothAt, withSpans, withSwitches, settingsAt, transportAt, settingsKnown, transportKnown}
 use Rattle.settings.specs.Records.{clampedSettings}

@@ -16,9 +16,8 @@ use Rattle.path_segments.specs.Times.{segmentsOf, timesOf}
 use Rattle.path.specs.declared.Path.{Path}
 use Rattle.path.specs.declared.PathPoint.{PathPoint}
 use Rattle.path.specs.Paths.{blankPathPoint, noPathPoint, clampedPathPoint, clampedPath, legsOf, pathOf, defaultPath}
-use Rattle.curves.specs.declared.PointCodes.{PointCodes}
-use Rattle.curves.specs.declared.PathPointCodes.{PathPointCodes}
-use Rattle.curves.specs.declared.LoopbackCodes.{LoopbackCodes}
+use Rattle.codes.specs.declared.ShapeCodes.{ShapeCodes}
+use Rattle.codes.specs.declared.PathCodes.{PathCodes}
 use Rattle.curves.specs.Given.{givenPoints, givenShape, givenPath}
 use Rattle.restart.specs.Rule.{SameShape, SamePath}
 
@@ -49,11 +48,12 @@ pub default-shape : KeptShape defaultShape
 unfolding defaultShape
 default-shape = record { blanks = refl }
 
-pub given-shape : (points : List PointCodes) (count : ℕ) (loopback : LoopbackCodes) → KeptShape (givenShape points count loopback)
+pub given-shape : (c : ShapeCodes) → KeptShape (givenShape c)
 unfolding givenShape shapeOf sortedArray
-given-shape points count loopback =
-    let l = givenPoints points (min count 64) in
-    record { blanks = blanked blank (sortedPoints l (min count 64)) (min count 64) (length-sorted l (min count 64)) }
+given-shape c =
+    let n = min (c .count) 64 in
+    let l = givenPoints (c .points) n in
+    record { blanks = blanked blank (sortedPoints l n) n (length-sorted l n) }
 
 path-of : (points : List PathPoint) (count : ℕ) (closed : Bool) → KeptPath (pathOf points count closed)
 unfolding pathOf clampedPath
@@ -65,9 +65,9 @@ pub default-path : KeptPath defaultPath
 unfolding defaultPath
 default-path = path-of _ 4 _
 
-pub given-path : (points : List PathPointCodes) (count closed : ℕ) → KeptPath (givenPath points count closed)
+pub given-path : (c : PathCodes) → KeptPath (givenPath c)
 unfolding givenPath
-given-path points count closed = path-of _ count _
+given-path c = path-of _ (c .count) _
 
 -- ---- equal ones are one
 

@@ -8,7 +8,7 @@ use borrow.Author.Tests.{eqb-true}
 use Rattle.shape.specs.declared.Shape.{Shape}
 use Rattle.path.specs.declared.Path.{Path}
 use Rattle.settings.specs.declared.choices.LfoType.{LfoType}
-use Rattle.settings.specs.declared.record.SettingsCodes.{SettingsCodes}
+use Rattle.codes.specs.declared.SettingsCodes.{SettingsCodes}
 use Rattle.settings.specs.declared.record.SettingsCode.{SettingsCode}
 use Rattle.settings.specs.declared.record.SettingsCode.the-variants as SettingsCode
 use Rattle.settings.specs.declared.record.TransportCode.{TransportCode}
@@ -59,8 +59,8 @@ good-played p TransportCode.Unknown n at g = g
 good-accepted : (p : State) (c : Call) → answer p c ≡ 0 → Good p → Good (accepted p c)
 unfolding accepted answer questions withShape withPath withBus
 good-accepted p (settings c) e g = good-set p (settingsAt c) (settings-fine c (settings-accepted c e .finite-all)) g
-good-accepted p (shape points n loopback) e g = record { settled = g .settled; shape-kept = given-shape points n loopback; path-kept = g .path-kept }
-good-accepted p (path points n closed) e g = record { settled = g .settled; shape-kept = g .shape-kept; path-kept = given-path points n closed }
+good-accepted p (shape c) e g = record { settled = g .settled; shape-kept = given-shape c; path-kept = g .path-kept }
+good-accepted p (path c) e g = record { settled = g .settled; shape-kept = g .shape-kept; path-kept = given-path c }
 good-accepted p (bus k z) e g = record { settled = g .settled; shape-kept = g .shape-kept; path-kept = g .path-kept }
 good-accepted p (phase c) e g = g
 good-accepted p (block c n r x y) e g = good-played p (transportAt c) n (pendingOf r) g

@@ -8,7 +8,7 @@ use lib.Seq.{take-at}
 use lib.Ieee.{Float}
 use Rattle.settings.specs.declared.record.Settings.{Settings}
 use Rattle.settings.specs.declared.record.Transport.{Transport}
-use Rattle.settings.specs.declared.record.TransportCodes.{TransportCodes}
+use Rattle.codes.specs.declared.TransportCodes.{TransportCodes}
 use Rattle.settings.specs.declared.record.TransportCode.the-variants as TransportCode
 use Rattle.settings.specs.Codes.{transportAt}
 use Rattle.clock.specs.Ready.{preparedOf}
@@ -19,7 +19,7 @@ use Rattle.bank.specs.declared.parts.Pending.{Pending}
 use Rattle.bank.specs.Parts.{partsVoice, partsOuts}
 use Rattle.slot.specs.declared.Lfo.{Lfo}
 use Rattle.slot.specs.Slot.{slotCurve}
-use Rattle.questions.specs.declared.RestartCodes.{RestartCodes}
+use Rattle.codes.specs.declared.RestartCodes.{RestartCodes}
 use Rattle.calls.specs.State.{State}
 use Rattle.calls.specs.Blocks.{pendingOf, playedState, values}
 use Rattle.calls.specs.Calls.{block, accepts, accepted, step, played, buffer}

@@ -4,10 +4,10 @@ use mathlib.Core.Bool.{cond}
 use mathlib.Core.List.{List, [], _∷_, _++_}
 use lib.ListN.{take}
 use lib.Ieee.{Float}
-use Rattle.settings.specs.declared.record.TransportCodes.{TransportCodes}
+use Rattle.codes.specs.declared.TransportCodes.{TransportCodes}
 use Rattle.bank.specs.declared.parts.Pending.{Pending}
 use Rattle.bank.specs.declared.parts.Pending.the-variants.{None, At}
-use Rattle.questions.specs.declared.RestartCodes.{RestartCodes}
+use Rattle.codes.specs.declared.RestartCodes.{RestartCodes}
 use Rattle.calls.specs.State.{State}
 use Rattle.calls.specs.Blocks.{pendingOf}
 use Rattle.calls.specs.Calls.{Call, settings, shape, path, bus, phase, block, accepts, step, buffer}
@@ -41,8 +41,8 @@ blocksUpTo (At k) own later = own ∷ []
 unfoldable pub heard : Side → State → List Call → List Float
 heard side p [] = []
 heard side p (settings c ∷ cs) = cond (accepts p (settings c)) [] (heard side (step p (settings c)) cs)
-heard side p (shape points n loopback ∷ cs) = cond (accepts p (shape points n loopback)) [] (heard side (step p (shape points n loopback)) cs)
-heard side p (path points n closed ∷ cs) = cond (accepts p (path points n closed)) [] (heard side (step p (path points n closed)) cs)
+heard side p (shape c ∷ cs) = cond (accepts p (shape c)) [] (heard side (step p (shape c)) cs)
+heard side p (path c ∷ cs) = cond (accepts p (path c)) [] (heard side (step p (path c)) cs)
 heard side p (bus k z ∷ cs) = cond (accepts p (bus k z)) [] (heard side (step p (bus k z)) cs)
 heard side p (phase c ∷ cs) = heard side (step p (phase c)) cs
 heard side p (block c n restart x y ∷ cs) =
@@ -54,8 +54,8 @@ heard side p (block c n restart x y ∷ cs) =
 unfoldable pub window : State → List Call → List TransportCodes
 window p [] = []
 window p (settings c ∷ cs) = cond (accepts p (settings c)) [] (window (step p (settings c)) cs)
-window p (shape points n loopback ∷ cs) = cond (accepts p (shape points n loopback)) [] (window (step p (shape points n loopback)) cs)
-window p (path points n closed ∷ cs) = cond (accepts p (path points n closed)) [] (window (step p (path points n closed)) cs)
+window p (shape c ∷ cs) = cond (accepts p (shape c)) [] (window (step p (shape c)) cs)
+window p (path c ∷ cs) = cond (accepts p (path c)) [] (window (step p (path c)) cs)
 window p (bus k z ∷ cs) = cond (accepts p (bus k z)) [] (window (step p (bus k z)) cs)
 window p (phase c ∷ cs) = window (step p (phase c)) cs
 window p (block c n restart x y ∷ cs) =

@@ -11,11 +11,11 @@ use Rattle.path.specs.declared.Path.{Path}
 use Rattle.settings.specs.declared.choices.LfoType.the-variants.{SampleAndHold}
 use Rattle.settings.specs.declared.choices.Mode.{Mode}
 use Rattle.settings.specs.declared.choices.Mode.the-variants.{Restart, OneShot}
-use Rattle.settings.specs.declared.times.ScaleCodes.{ScaleCodes}
+use Rattle.codes.specs.declared.ScaleCodes.{ScaleCodes}
 use Rattle.settings.specs.declared.record.Settings.{Settings}
-use Rattle.settings.specs.declared.record.SettingsCodes.{SettingsCodes}
+use Rattle.codes.specs.declared.SettingsCodes.{SettingsCodes}
 use Rattle.settings.specs.declared.record.Transport.{Transport}
-use Rattle.settings.specs.declared.record.TransportCodes.{TransportCodes}
+use Rattle.codes.specs.declared.TransportCodes.{TransportCodes}
 use Rattle.settings.specs.Codes.{transportAt}
 use Rattle.clock.specs.Ready.{preparedOf}
 use Rattle.voice.specs.declared.Voice.{Voice}
@@ -23,7 +23,7 @@ use Rattle.bank.specs.Render.{voiceAfter}
 use Rattle.bank.specs.Parts.{begun}
 use Rattle.slot.specs.Slot.{slotCurve}
 use Rattle.curves.specs.Given.{isYes}
-use Rattle.questions.specs.declared.RestartCodes.{RestartCodes}
+use Rattle.codes.specs.declared.RestartCodes.{RestartCodes}
 use Rattle.calls.specs.State.{State}
 use Rattle.calls.specs.Calls.{Call, block, makes, made, answer, step, after, byTransport}
 use Rattle.restart.specs.Heard.{Side, read, heard, window}

@@ -17,26 +17,26 @@ use Rattle.settings.specs.declared.choices.DirectionCode.the-variants as
 use Rattle.settings.specs.declared.choices.YesNo.{YesNo}
 use Rattle.settings.specs.declared.choices.YesNo.the-variants as YesNo
 use Rattle.settings.specs.declared.times.Rate.{Rate}
-use Rattle.settings.specs.declared.times.RateCodes.{RateCodes}
+use Rattle.codes.specs.declared.RateCodes.{RateCodes}
 use Rattle.settings.specs.declared.times.RateCode.{RateCode}
 use Rattle.settings.specs.declared.times.RateCode.the-variants as RateCode
 use Rattle.settings.specs.declared.times.Span.{Span}
-use Rattle.settings.specs.declared.times.SpanCodes.{SpanCodes}
+use Rattle.codes.specs.declared.SpanCodes.{SpanCodes}
 use Rattle.settings.specs.declared.times.SpanCode.{SpanCode}
 use Rattle.settings.specs.declared.times.SpanCode.the-variants as SpanCode
 use Rattle.settings.specs.declared.times.Scale.{Scale}
-use Rattle.settings.specs.declared.times.ScaleCodes.{ScaleCodes}
+use Rattle.codes.specs.declared.ScaleCodes.{ScaleCodes}
 use Rattle.settings.specs.declared.times.ScaleCode.{ScaleCode}
 use Rattle.settings.specs.declared.times.ScaleCode.the-variants as ScaleCode
 use Rattle.settings.specs.declared.record.Smooth.{Smooth}
 use Rattle.settings.specs.declared.record.Smooth.the-variants as Smooth
-use Rattle.settings.specs.declared.record.SmoothCodes.{SmoothCodes}
+use Rattle.codes.specs.declared.SmoothCodes.{SmoothCodes}
 use Rattle.settings.specs.declared.record.SmoothCode.{SmoothCode}
 use Rattle.settings.specs.declared.record.SmoothCode.the-variants as SmoothCode
-use Rattle.settings.specs.declared.record.SettingsCodes.{SettingsCodes}
+use Rattle.codes.specs.declared.SettingsCodes.{SettingsCodes}
 use Rattle.settings.specs.declared.record.SettingsCode.{SettingsCode}
 use Rattle.settings.specs.declared.record.SettingsCode.the-variants as SettingsCode
-use Rattle.settings.specs.declared.record.TransportCodes.{TransportCodes}
+use Rattle.codes.specs.declared.TransportCodes.{TransportCodes}
 use Rattle.settings.specs.declared.record.TransportCode.{TransportCode}
 use Rattle.settings.specs.declared.record.TransportCode.the-variants as TransportCode
 

@@ -3,18 +3,19 @@
 //
 // They are the x of a block. A sample's x is raw × weight + start × (1 − weight), and start is the raw value of the first sample after the restart.
 // The shape here is 0 at that sample, whose weight is 0, and 1 at the others: x is the weight.
-use curves::LoopbackCodes;
-use curves::ModCodes;
-use curves::PointCodes;
+use codes::LoopbackCodes;
+use codes::ModCodes;
+use codes::PointCodes;
+use codes::RateCodes;
+use codes::RestartCodes;
+use codes::ScaleCodes;
+use codes::SettingsCodes;
+use codes::ShapeCodes;
+use codes::SmoothCodes;
+use codes::SpanCodes;
+use codes::TransportCodes;
 use libc::STDOUT_FILENO;
 use points::MAX_POINTS;
-use questions::RestartCodes;
-use settings::RateCodes;
-use settings::ScaleCodes;
-use settings::SettingsCodes;
-use settings::SmoothCodes;
-use settings::SpanCodes;
-use settings::TransportCodes;
 
 const FRAMES: usize = 7;
 
@@ -143,8 +144,12 @@ fn main() {
     if refused(made.answer) {
         return;
     }
-    let loopback = LoopbackCodes { code: 0, index: 0 };
-    let shaped = player::set_shape(made.player, points(), 2, loopback);
+    let shape = ShapeCodes {
+        points: points(),
+        count: 2,
+        loopback: LoopbackCodes { code: 0, index: 0 },
+    };
+    let shaped = player::set_shape(made.player, shape);
     if refused(shaped.answer) {
         return;
     }

@@ -2,46 +2,45 @@
 use Prim.Native.Nat.{ℕ}
 use mathlib.Core.Path.{_≡_, sym}
 use mathlib.Core.Bool.{Bool}
-use mathlib.Core.List.{List, [], _∷_}
+use mathlib.Core.List.{[], _∷_}
 use borrow.Author.Needs.{needs}
 use borrow.Author.Tests.{ne-eqb}
 use lib.Ieee.{Float}
 use lib.Ieee.Scale.{finite}
 use Rattle.shape.specs.declared.Shape.{Shape}
 use Rattle.shape.specs.Shapes.{shapeValue}
-use Rattle.curves.specs.declared.PointCodes.{PointCodes}
-use Rattle.curves.specs.declared.LoopbackCodes.{LoopbackCodes}
+use Rattle.codes.specs.declared.ShapeCodes.{ShapeCodes}
 use Rattle.curves.specs.Given.{givenShape}
 use Rattle.questions.specs.Questions.{firstNo, shapeQuestions}
 use Rattle.questions.specs.Answers.{refusal, success}
-use Rattle.evaluate.specs.Values.{valueAnswer, evaluatedShape}
+use Rattle.evaluate.specs.Values.{shapeResultAnswer, evaluatedShape}
 use Rattle.evaluate.proofs.evaluate_shape.Statement.{statement}
 use Rattle.evaluate.proofs.evaluate_shape.Tie as tie
 
 -- of the number n that the questions gave
-module _ (points : List PointCodes) (count : ℕ) (loopback : LoopbackCodes) (x : Float) (others : Bool) (n : ℕ)
-    (o : others ≡ finite x) (a : n ≡ firstNo (shapeQuestions others points count loopback)) where
-  number : firstNo (shapeQuestions (finite x) points count loopback) ≡ n
+module _ (codes : ShapeCodes) (x : Float) (others : Bool) (n : ℕ)
+    (o : others ≡ finite x) (a : n ≡ firstNo (shapeQuestions others codes)) where
+  number : firstNo (shapeQuestions (finite x) codes) ≡ n
   number = rw (← o) (sym a)
 
-  refused : (n ≡ 0 → ⊥) → refusal n ≡ evaluatedShape points count loopback x
+  refused : (n ≡ 0 → ⊥) → refusal n ≡ evaluatedShape codes x
   unfolding evaluatedShape
   refused h = rw (number, ne-eqb n 0 h)
 
-  answered : n ≡ 0 → (s : Shape) (v : Float) → s ≡ givenShape points count loopback → v ≡ shapeValue s x
-      → success (v ∷ []) ≡ evaluatedShape points count loopback x
+  answered : n ≡ 0 → (s : Shape) (v : Float) → s ≡ givenShape codes → v ≡ shapeValue s x
+      → success (v ∷ []) ≡ evaluatedShape codes x
   unfolding evaluatedShape
   answered h s v e f = rw (number, h, f, e)
 
 returns : tie.Need-returns
-unfolding valueAnswer
-returns c = refused _ _ _ _ _ _ (c .before .before .is-finite-f32 .ensures) (c .before .shape-answer .ensures) (c .if1 .taken)
+unfolding shapeResultAnswer
+returns c = refused _ _ _ _ (c .before .before .is-finite-f32 .ensures) (c .before .shape-answer .ensures) (c .if1 .taken)
 
 returns-2 : tie.Need-returns-2
-unfolding valueAnswer
+unfolding shapeResultAnswer
 returns-2 c =
     let d = c .before .before in
-    answered _ _ _ _ _ _ (d .before .before .is-finite-f32 .ensures) (d .before .shape-answer .ensures) (d .if1 .left) _ _ (c .before .shape-of .ensures .0) (c .value .ensures)
+    answered _ _ _ _ (d .before .before .is-finite-f32 .ensures) (d .before .shape-answer .ensures) (d .if1 .left) _ _ (c .before .shape-of .ensures .0) (c .value .ensures)
 
 pub evaluate-shape-spec : {M : Type 1} → statement M
 evaluate-shape-spec =

@@ -1,7 +1,7 @@
 -- `path_answer` meets its contract. Assumes nothing.
 use borrow.Author.Needs.{needs}
 use Rattle.questions.specs.Questions.{firstNo, pathQuestions}
-use Rattle.questions.proofs.Laws.{no, yes}
+use Rattle.questions.proofs.Laws.{no, yes, also}
 use Rattle.questions.proofs.path_answer.Statement.{statement}
 use Rattle.questions.proofs.path_answer.Tie as tie
 
@@ -11,7 +11,7 @@ returns c = rw (no (c .before .path-known .ensures) (c .if1 .taken))
 
 returns-2 : tie.Need-returns-2
 unfolding firstNo pathQuestions
-returns-2 c = let q1 = c .before .before in rw (yes (q1 .before .path-known .ensures) (q1 .if1 .left), no (c .before .path-finite .ensures) (c .if2 .taken))
+returns-2 c = let q1 = c .before .before in rw (yes (q1 .before .path-known .ensures) (q1 .if1 .left), no (also (c .before .path-finite .ensures) _) (c .if2 .taken))
 
 returns-3 : tie.Need-returns-3
 unfolding firstNo pathQuestions
@@ -20,7 +20,7 @@ returns-3 c =
     let q1 = q2 .before .before in
     rw (
       yes (q1 .before .path-known .ensures) (q1 .if1 .left),
-      yes (q2 .before .path-finite .ensures) (q2 .if2 .left),
+      yes (also (q2 .before .path-finite .ensures) _) (q2 .if2 .left),
       no (c .before .path-on-paper .ensures) (c .if3 .taken),
     )
 
@@ -31,7 +31,7 @@ returns-4 c =
     let q1 = q2 .before .before in
     rw (
       yes (q1 .before .path-known .ensures) (q1 .if1 .left),
-      yes (q2 .before .path-finite .ensures) (q2 .if2 .left),
+      yes (also (q2 .before .path-finite .ensures) _) (q2 .if2 .left),
       yes (c .before .path-on-paper .ensures) (c .if3 .left),
     )
 

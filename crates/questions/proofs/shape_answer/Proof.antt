@@ -1,7 +1,7 @@
 -- `shape_answer` meets its contract. Assumes nothing.
 use borrow.Author.Needs.{needs}
 use Rattle.questions.specs.Questions.{firstNo, shapeQuestions}
-use Rattle.questions.proofs.Laws.{no, yes}
+use Rattle.questions.proofs.Laws.{no, yes, also}
 use Rattle.questions.proofs.shape_answer.Statement.{statement}
 use Rattle.questions.proofs.shape_answer.Tie as tie
 
@@ -11,7 +11,7 @@ returns c = rw (no (c .before .shape-known .ensures) (c .if1 .taken))
 
 returns-2 : tie.Need-returns-2
 unfolding firstNo shapeQuestions
-returns-2 c = let q1 = c .before .before in rw (yes (q1 .before .shape-known .ensures) (q1 .if1 .left), no (c .before .shape-finite .ensures) (c .if2 .taken))
+returns-2 c = let q1 = c .before .before in rw (yes (q1 .before .shape-known .ensures) (q1 .if1 .left), no (also (c .before .shape-finite .ensures) _) (c .if2 .taken))
 
 returns-3 : tie.Need-returns-3
 unfolding firstNo shapeQuestions
@@ -20,9 +20,8 @@ returns-3 c =
     let q1 = q2 .before .before in
     rw (
       yes (q1 .before .shape-known .ensures) (q1 .if1 .left),
-      yes (q2 .before .shape-finite .ensures) (q2 .if2 .left),
-      ← q1 .before .before .kept .ensures,
-      no (c .before .loopback-below .ensures) (c .if3 .taken),
+      yes (also (q2 .before .shape-finite .ensures) _) (q2 .if2 .left),
+      no (c .before .loopback-in .ensures) (c .if3 .taken),
     )
 
 returns-4 : tie.Need-returns-4
@@ -33,10 +32,9 @@ returns-4 c =
     let q1 = q2 .before .before in
     rw (
       yes (q1 .before .shape-known .ensures) (q1 .if1 .left),
-      yes (q2 .before .shape-finite .ensures) (q2 .if2 .left),
+      yes (also (q2 .before .shape-finite .ensures) _) (q2 .if2 .left),
       no (c .before .shape-on-grid .ensures) (c .if4 .taken),
-      ← q1 .before .before .kept .ensures,
-      yes (q4 .before .loopback-below .ensures) (q4 .if3 .left),
+      yes (q4 .before .loopback-in .ensures) (q4 .if3 .left),
     )
 
 returns-5 : tie.Need-returns-5
@@ -47,17 +45,15 @@ returns-5 c =
     let q1 = q2 .before .before in
     rw (
       yes (q1 .before .shape-known .ensures) (q1 .if1 .left),
-      yes (q2 .before .shape-finite .ensures) (q2 .if2 .left),
+      yes (also (q2 .before .shape-finite .ensures) _) (q2 .if2 .left),
       yes (c .before .shape-on-grid .ensures) (c .if4 .left),
-      ← q1 .before .before .kept .ensures,
-      yes (q4 .before .loopback-below .ensures) (q4 .if3 .left),
+      yes (q4 .before .loopback-in .ensures) (q4 .if3 .left),
     )
 
 pub shape-answer-spec : {M : Type 1} → statement M
 shape-answer-spec =
     tie.close
     (tie.spec
-    (λ c κs. search needs)
     (λ c κs. search needs)
     returns
     (λ c κs. search needs)

@@ -8,7 +8,7 @@ returns : tie.Need-returns
 returns c =
     let q = c .before in
     let s = q .before in
-    path-refused _ (s .pre) _ _ _ _ (q .path-answer .ensures) (c .if1 .taken)
+    path-refused _ (s .pre) _ _ (q .path-answer .ensures) (c .if1 .taken)
 
 returns-2 : tie.Need-returns-2
 returns-2 c =
@@ -16,7 +16,7 @@ returns-2 c =
     let i = m .before in
     let q = i .before in
     let s = q .before in
-    path-set _ (s .pre) _ _ _ _ (q .path-answer .ensures) (i .if1 .left) _ (m .path-of .ensures .0) _ (c .edited .ensures)
+    path-set _ (s .pre) _ _ (q .path-answer .ensures) (i .if1 .left) _ (m .path-of .ensures .0) _ (c .edited .ensures)
 
 pub set-path-spec : {M : Type 1} → statement M
 set-path-spec = tie.close (tie.spec (λ c κs. search needs) returns (λ c κs. search needs) (λ c κs. search needs) returns-2)

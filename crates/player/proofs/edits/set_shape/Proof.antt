@@ -8,7 +8,7 @@ returns : tie.Need-returns
 returns c =
     let q = c .before in
     let s = q .before in
-    shape-refused _ (s .pre) _ _ _ _ (q .shape-answer .ensures) (c .if1 .taken)
+    shape-refused _ (s .pre) _ _ (q .shape-answer .ensures) (c .if1 .taken)
 
 returns-2 : tie.Need-returns-2
 returns-2 c =
@@ -16,7 +16,7 @@ returns-2 c =
     let i = m .before in
     let q = i .before in
     let s = q .before in
-    shape-set _ (s .pre) _ _ _ _ (q .shape-answer .ensures) (i .if1 .left) _ (m .shape-of .ensures .0) _ (c .edited .ensures)
+    shape-set _ (s .pre) _ _ (q .shape-answer .ensures) (i .if1 .left) _ (m .shape-of .ensures .0) _ (c .edited .ensures)
 
 pub set-shape-spec : {M : Type 1} → statement M
 set-shape-spec = tie.close (tie.spec (λ c κs. search needs) returns (λ c κs. search needs) (λ c κs. search needs) returns-2)

@@ -1,47 +1,12 @@
--- `shape_known` meets its contract. The loop's invariant: `all` is the test of the first i. Assumes nothing.
-use Prim.Native.Nat.{_≤_, _-_, min}
-use mathlib.Core.Path.{_≡_, refl}
-use native.Mathlib.Omega.{arith}
+-- `shape_known` meets its contract. Assumes nothing.
 use borrow.Author.Needs.{needs}
-use lib.ListN.{getD}
-use Rattle.curves.specs.Given.{noPointCodes}
-use Rattle.questions.specs.Tests.{every, pointKnown}
-use Rattle.questions.proofs.Laws.{every-more}
+use Rattle.questions.specs.Tests.{shapeKnown}
 use Rattle.questions.proofs.curve_tests.shape_known.Statement.{statement}
 use Rattle.questions.proofs.curve_tests.shape_known.Tie as tie
 
-abbrev Inv-loop : tie.InvT-loop
-Inv-loop count loopback points n all₀ i₀ all i = (i ≤ n) × (n ≡ min count 64) × (all ≡ every (λ k. pointKnown (getD points k noPointCodes)) i)
-
-abbrev μ-loop : tie.MeasureT-loop
-μ-loop count loopback points n all₀ i₀ all i = n - i
-
-loop-holds : tie.Need-loop-holds Inv-loop μ-loop
-unfolding every
-loop-holds c = (omega arith, c .kept .ensures, refl)
-
-loop-again : tie.Need-loop-again Inv-loop μ-loop
-loop-again c = let inv = c .before .before .before .loop .inv in (omega arith, inv .1, every-more _ _ (inv .2) (c .point-known .ensures))
-
-returns : tie.Need-returns Inv-loop μ-loop
-returns c =
-    let at = c .before .before .loop in
-    let inv = at .inv in
-    let e : at .i ≡ min (c .before .before .before .before .args .count) 64 = omega arith in
-    rw (inv .2, e)
+returns : tie.Need-returns
+unfolding shapeKnown
+returns c = rw (c .before .points-known .ensures)
 
 pub shape-known-spec : {M : Type 1} → statement M
-shape-known-spec =
-    tie.close
-    (tie.spec
-    Inv-loop
-    μ-loop
-    (λ c κs. search needs)
-    loop-holds
-    (λ c. omega arith)
-    (λ c. omega arith)
-    (λ c κs. search needs)
-    (λ c. omega arith)
-    (λ c. omega arith)
-    loop-again
-    returns)
+shape-known-spec = tie.close (tie.spec (λ c κs. search needs) returns)
