@@ -2,7 +2,6 @@
 use Prim.Native.Nat.{ℕ, zero, suc, _<_, min}
 use mathlib.Core.Path.{_≡_, refl, sym, subst}
 use mathlib.Core.Bool.{true}
-use mathlib.Core.List.{List}
 use native.Mathlib.Omega.{arith}
 use lib.Dec.{T}
 use lib.ListN.{getD, List·getD-append}
