@@ -19,7 +19,7 @@ editedPlayer p lfo =
       played = p .played;
     }
 
--- what holds of every player, `make` ensures it and every other call keeps it: of its page, of its voice, and what ties the cache to both
+-- What holds of every player: of its page, of its voice, and of the cache, which belongs to both. `make` ensures it, and every other call keeps it.
 pub record Valid (p : Player) : Type 0 where
   pub within : p .played ≤ 2 ^ 40
   pub lfo-in : LfoIn (p .played) (p .slot .lfo)
