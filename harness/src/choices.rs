@@ -1,81 +1,40 @@
-//! `settings` against lfo/mod.rs: codes, knobs, factors.
+//! What no run reaches of `settings` against lfo/mod.rs: knobs, indices, the song position moved on.
 use crate::ffi;
-use crate::lfo::{Division, Rate, Scale, Span};
-use crate::tally::{Tally, bits32};
-use crate::values::{FEELS, KINDS, Values, limits_f32, limits_f64};
+use crate::lfo::{Division, Rate, Span, Transport};
+use crate::tally::Tally;
+use crate::values::{KINDS, Values, limits_f32, limits_f64};
 
-/// What crates/exports answers where a code is not known.
+/// What crates/exports answers where a code or an index is not known.
 const UNKNOWN: u64 = 255;
 
-// A case by its place in the Rust's enumeration.
-fn codes(t: &mut Tally, code: u64) {
-    let known = |count: u64| if code < count { code } else { UNKNOWN };
-    let input = |name: &'static str| move || format!("{name} of {code}");
-    let kind = KINDS.get(code as usize);
-    t.word(
-        ffi::code_kind(code),
-        kind.map_or(UNKNOWN, |&k| k as u64),
-        input("kind"),
-    );
-    let generator = kind.map_or(UNKNOWN, |k| u64::from(k.is_generator()));
-    t.word(
-        ffi::kind_is_generator(code),
-        generator,
-        input("is_generator"),
-    );
-    t.word(ffi::code_mode(code), known(3), input("mode"));
-    t.word(ffi::code_direction(code), known(3), input("direction"));
-    let feel = FEELS.get(code as usize);
-    t.word(
-        ffi::code_feel(code),
-        feel.map_or(UNKNOWN, |&f| f as u64),
-        input("feel"),
-    );
-    t.f64(
-        ffi::feel_factor(code),
-        feel.map_or(f64::NAN, |f| f.factor()),
-        input("factor of feel"),
-    );
-    t.word(ffi::code_yes_no(code), known(2), input("yes or no"));
-    t.word(
-        ffi::code_division(code),
-        known(u64::from(Division::COUNT)),
-        input("division"),
-    );
+fn kind(t: &mut Tally, code: u64) {
+    let known = usize::try_from(code).ok().and_then(|k| KINDS.get(k));
+    let rust = known.map_or(UNKNOWN, |k| k.is_generator().into());
+    t.word(ffi::kind_is_generator(code), rust, || {
+        format!("is_generator of {code}")
+    });
 }
 
-// The fields of a span as crates/exports gives them.
-fn span_words(span: Span) -> [u64; 3] {
+/// A span as crates/exports gives it: 0, or 1 more than its division's index.
+fn span_number(span: Span) -> u64 {
     match span {
-        Span::Off => [0, 0, 0],
-        Span::Synced(d) => [1, d.index().into(), 0],
-        Span::Seconds(s) => [2, 0, bits32(s)],
+        Span::Off => 0,
+        Span::Synced(d) => 1 + u64::from(d.index()),
+        Span::Seconds(_) => UNKNOWN,
     }
 }
 
 fn index(t: &mut Tally, k: u8) {
     let input = |name: &'static str| move || format!("{name} of {k}");
-    let new = Division::new(k).map_or(UNKNOWN, |d| d.index().into());
-    t.word(ffi::division_new(k), new, input("Division::new"));
     let d = Division::new(k);
+    let number = d.map_or(UNKNOWN, |d| d.index().into());
+    t.word(ffi::division_new(k), number, input("Division::new"));
     let normalised = d.map_or(f32::NAN, Division::normalised);
     t.f32(ffi::division_normalised(k), normalised, input("normalised"));
     let stored = d.map_or(f32::NAN, Division::stored);
     t.f32(ffi::division_stored(k), stored, input("stored"));
-    for (which, word) in span_words(Span::from_index(k)).into_iter().enumerate() {
-        t.word(
-            ffi::span_from_index(k, which),
-            word,
-            input("Span::from_index"),
-        );
-    }
-}
-
-fn beats(t: &mut Tally, k: u8, bar: f64) {
-    let rust = Division::new(k).map_or(f64::NAN, |d| d.beats(bar));
-    t.f64(ffi::division_beats(k, bar), rust, || {
-        format!("beats of {k}, {bar:e} to the bar")
-    });
+    let span = span_number(Span::from_index(k));
+    t.word(ffi::span_from_index(k), span, input("Span::from_index"));
 }
 
 fn knob(t: &mut Tally, n: f32) {
@@ -90,28 +49,38 @@ fn knob(t: &mut Tally, n: f32) {
         let Rate::Hz { hz, .. } = Rate::hz_from_normalised(n, x10) else {
             unreachable!()
         };
-        for (which, word) in [1, 0, 0, bits32(hz), u64::from(x10)]
-            .into_iter()
-            .enumerate()
-        {
-            t.word(
-                ffi::rate_hz_from_normalised(n, x10, which),
-                word,
-                input("hz_from_normalised"),
-            );
-        }
+        t.f32(
+            ffi::rate_hz_from_normalised(n, x10),
+            hz,
+            input("hz_from_normalised"),
+        );
     }
 }
 
-fn scale(t: &mut Tally, code: u64, percent: f32) {
-    let rust = match code {
-        0 => Scale::Percent(percent).factor(),
-        1 => Scale::Rate(percent).factor(),
-        _ => f64::NAN,
+fn advance(t: &mut Tally, [sample_rate, tempo, beats, seconds]: [f64; 4], frames: usize) {
+    let mut song = Transport {
+        tempo,
+        beats,
+        seconds,
+        ..Transport::new(sample_rate)
     };
-    t.f64(ffi::scale_factor(code, percent), rust, || {
-        format!("factor of scale {code}, {percent:e} percent")
-    });
+    song.advance(frames);
+    let input = || {
+        format!(
+            "{frames} frames at {sample_rate:e} after {beats:e} beats at {tempo:e} a minute, {seconds:e} s"
+        )
+    };
+    let n = frames as u64;
+    t.f64(
+        ffi::transport_beats_after(sample_rate, tempo, beats, n),
+        song.beats,
+        input,
+    );
+    t.f64(
+        ffi::transport_seconds_after(sample_rate, seconds, n),
+        song.seconds,
+        input,
+    );
 }
 
 fn limits(t: &mut Tally) {
@@ -119,13 +88,10 @@ fn limits(t: &mut Tally) {
         .chain((0..64).map(|k| 1 << k))
         .chain([u64::MAX, u64::MAX - 1])
     {
-        codes(t, code);
+        kind(t, code);
     }
     for k in 0..=u8::MAX {
         index(t, k);
-        for &bar in &limits_f64() {
-            beats(t, k, bar);
-        }
     }
     // every place of the knob, and halfway between two, with the floats around
     for k in 0..=28 {
@@ -136,8 +102,11 @@ fn limits(t: &mut Tally) {
     }
     for &n in &limits_f32() {
         knob(t, n);
-        for code in 0..3 {
-            scale(t, code, n);
+    }
+    for &x in &limits_f64() {
+        for frames in [0, 1, 8192, usize::MAX] {
+            advance(t, [x, 120.0, 1.0, x], frames);
+            advance(t, [48_000.0, x, -x, 0.5], frames);
         }
     }
 }
@@ -145,13 +114,18 @@ fn limits(t: &mut Tally) {
 pub fn compare(t: &mut Tally, v: &mut Values) {
     limits(t);
     while t.goes_on() {
-        codes(t, v.number());
-        beats(t, v.below(15) as u8, v.any_f64());
         for _ in 0..4 {
             knob(t, v.about(1.0));
         }
         knob(t, v.any_f32());
-        scale(t, v.code(2), v.about(1000.0));
-        scale(t, v.below(2), v.any_f32());
+        kind(t, v.number());
+        let frames = v.number() as usize;
+        advance(t, [(); 4].map(|()| v.any_f64()), frames);
+        let [rate, tempo] = [v.unit() * 768_000.0, v.unit() * 1000.0];
+        advance(
+            t,
+            [rate, tempo, v.song_position(), v.song_position()],
+            v.index(8193),
+        );
     }
 }

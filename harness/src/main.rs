@@ -13,17 +13,12 @@ include!(concat!(env!("OUT_DIR"), "/source.rs"));
 mod adverse;
 mod bend;
 mod choices;
-mod clock;
-mod curves;
 mod drawn;
 mod ffi;
 mod figures;
 mod floats;
-mod generators;
 mod legs;
-mod numbers;
 mod player;
-mod position;
 mod progress;
 mod questions;
 mod reading;
@@ -47,17 +42,12 @@ use values::Values;
 
 type Compare = fn(&mut Tally, &mut Values);
 
-/// Each subject with the number of values of a short run, which takes about a minute.
-const SUBJECTS: [(&str, Compare, u64); 9] = [
+/// Each subject with the number of values of a short run.
+const SUBJECTS: [(&str, Compare, u64); 4] = [
     ("floats", floats::compare, 50_000_000),
-    ("generators", generators::compare, 30_000_000),
     ("bend", bend::compare, 50_000_000),
     ("legs", legs::compare, 20_000_000),
-    ("curves", curves::compare, 3_000_000),
     ("choices", choices::compare, 50_000_000),
-    ("position", position::compare, 50_000_000),
-    ("clock", clock::compare, 40_000_000),
-    ("numbers", numbers::compare, 50_000_000),
 ];
 
 const USAGE: &str = "usage: harness/run vectors chaos|curves
@@ -68,7 +58,7 @@ const USAGE: &str = "usage: harness/run vectors chaos|curves
        harness/run compare bend long
        harness/run compare legs long
        harness/run compare runs long
-SUBJECT is floats, generators, bend, legs, curves, choices, position, clock or numbers; COUNT the least number of values of each.
+SUBJECT is floats, bend, legs or choices; COUNT the least number of values of each.
 BYTES are those of a run, in hexadecimal.
 Of runs, COUNT is the least number of runs and FRAMES of frames; run i has the seed SEED + i.";
 

@@ -1,6 +1,5 @@
 //! Stands as the module `tests` inside lfo/mod.rs (build.rs), where private items can be named: opens what the comparison calls. Inherent
-//! functions, because the module itself cannot be named from outside. A choice is opened as words, in the order of crates/exports: its code,
-//! then its fields, a float by its bits.
+//! functions, because the module itself cannot be named from outside.
 use super::*;
 use crate::bend::strengths;
 use crate::player::{Heard, Supplied, TimedPath};
@@ -21,155 +20,10 @@ impl Lfo {
     }
 }
 
-// mod.rs: the random generator, swing and position
-impl Lfo {
-    pub fn mix_(seed: u64) -> u64 {
-        mix(seed)
-    }
-    pub fn swung_(c: f64, first: f64) -> f64 {
-        swung(c, first)
-    }
-    pub fn position_(mode: Mode, direction: Direction, c: f64, loopback: Option<f64>) -> f64 {
-        position(mode, direction, c, loopback)
-    }
-}
-
-impl LfoVoice {
-    /// The word after a draw from `word`, and the value drawn.
-    pub fn draw_(&mut self, word: u64) -> (u64, f32) {
-        self.rng = word;
-        let value = self.random();
-        (self.rng, value)
-    }
-}
-
-// shape.rs: segments by their floats, and their values; a drawn one takes our strength, a path's our times where the source has others
-impl Lfo {
-    pub fn drawn_segment_(shape: &Shape, xs: &[f32], ys: &[f32], x: f32) -> ([f32; 7], f32) {
-        let s = strong_segment(shape, xs, ys, x);
-        ([s.lo, s.hi, s.x0, s.inv_w, s.y0, s.dy, s.e], s.eval(x))
-    }
-    pub fn path_segment_(
-        path: &TimedPath,
-        xs: &[f32],
-        ys: &[f32],
-        t: f32,
-    ) -> ([f32; 10], (f32, f32)) {
-        let s = segment_of(path, xs, ys, t);
-        let [ax, dx, nx, ay, dy, ny] = s.c;
-        (
-            [s.lo, s.hi, s.t0, s.inv_w, ax, dx, nx, ay, dy, ny],
-            s.eval(t),
-        )
-    }
-}
-
-// mod.rs: a block
+// mod.rs: the coefficient of a block
 impl Block {
-    pub fn numbers_(&self) -> [u64; 10] {
-        [
-            self.frames as u64,
-            self.inc.to_bits(),
-            self.phase.to_bits(),
-            self.beats.to_bits(),
-            self.beats_per_sample.to_bits(),
-            self.seconds.to_bits(),
-            self.sample_rate.to_bits(),
-            self.beats_per_bar.to_bits(),
-            u64::from(self.chaos_h.to_bits()),
-            u64::from(self.chaos_steps),
-        ]
-    }
-    pub fn song_lock_(&self) -> [u64; 2] {
-        match self.song_lock {
-            None => [0, 0],
-            Some(SongLock::Beats(p)) => [1, p.to_bits()],
-            Some(SongLock::Seconds(h)) => [2, h.to_bits()],
-        }
-    }
-    pub fn free_(&self) -> [u64; 3] {
-        match self.free {
-            FreeClock::Beats(p) => [0, p.to_bits(), 0],
-            FreeClock::Seconds(h) => [1, h.to_bits(), 0],
-            FreeClock::Counting { c0, n } => [2, c0.to_bits(), n],
-        }
-    }
-    pub fn swing_(&self) -> Option<f64> {
-        self.swing
-    }
     pub fn smooth_(&self) -> Option<f32> {
         self.smooth
-    }
-}
-
-impl Span {
-    pub fn samples_(self, block: &Block) -> u64 {
-        self.samples(block)
-    }
-}
-
-// mod.rs: the clock of a slot, and the anchor of a voice
-impl Lfo {
-    /// c0, n, inc, next, locked.
-    pub fn clock_(&self) -> [u64; 5] {
-        [
-            self.clock_c0.to_bits(),
-            self.clock_n,
-            self.clock_inc.to_bits(),
-            self.clock_next.to_bits(),
-            u64::from(self.clock_locked),
-        ]
-    }
-    pub fn set_clock_(&mut self, words: [u64; 5]) {
-        self.clock_c0 = f64::from_bits(words[0]);
-        self.clock_n = words[1];
-        self.clock_inc = f64::from_bits(words[2]);
-        self.clock_next = f64::from_bits(words[3]);
-        self.clock_locked = words[4] != 0;
-    }
-    pub fn begin_(&self, block: &Block, voice: &mut LfoVoice, from: usize) {
-        self.begin(block, voice, from);
-    }
-    pub fn stage_(&self, block: &Block, voice: &mut LfoVoice, k: usize) {
-        let _ = self.stage(block, voice, k);
-    }
-    pub fn cycles_(&self, block: &Block, voice: &LfoVoice, k: usize) -> f64 {
-        self.cycles(block, voice, k)
-    }
-}
-
-impl LfoVoice {
-    pub fn anchor_(&self) -> [u64; 4] {
-        match self.anchor {
-            Anchor::Samples { c0, n, inc } => [0, c0.to_bits(), n, inc.to_bits()],
-            Anchor::Beats { c0, b0, per_beat } => {
-                [1, c0.to_bits(), b0.to_bits(), per_beat.to_bits()]
-            }
-            Anchor::Seconds { c0, s0, per_second } => {
-                [2, c0.to_bits(), s0.to_bits(), per_second.to_bits()]
-            }
-        }
-    }
-    pub fn set_anchor_(&mut self, words: [u64; 4]) {
-        let [code, c0, n, rate] = words;
-        let (c0, rate) = (f64::from_bits(c0), f64::from_bits(rate));
-        self.anchor = match code {
-            0 => Anchor::Samples { c0, n, inc: rate },
-            1 => Anchor::Beats {
-                c0,
-                b0: f64::from_bits(n),
-                per_beat: rate,
-            },
-            _ => Anchor::Seconds {
-                c0,
-                s0: f64::from_bits(n),
-                per_second: rate,
-            },
-        };
-    }
-    /// Delay and fade in of the last restart, in samples.
-    pub fn spans_(&self) -> [u64; 2] {
-        [self.delay, self.fade]
     }
 }
 

@@ -110,15 +110,20 @@ fn mods(v: &mut Values, mods: &mut [Present<Mod>; 2], code: bool) {
     };
 }
 
-// A curve off the grid, of any kept point, the first or the last; with a step too, and where that is the 64th of more.
-fn off_grid(v: &mut Values, s: &mut Shape) {
+// Any kept point, often the first or the last; now and then the points are made more than 64, at most by `more`.
+fn any_kept<'a, P: Copy>(v: &mut Values, points: &'a mut Vec<P>, more: usize) -> &'a mut P {
     if v.one_in(6) {
-        let last = s.points[s.points.len() - 1];
-        s.points.resize(s.points.len().max(65 + v.index(4)), last);
+        let last = points[points.len() - 1];
+        points.resize(points.len().max(65 + v.index(more)), last);
     }
-    let kept = s.points.len().min(64);
+    let kept = points.len().min(64);
     let any = v.index(kept);
-    let p = &mut s.points[v.of(&[any, any, 0, kept - 1])];
+    &mut points[v.of(&[any, any, 0, kept - 1])]
+}
+
+// A curve off the grid, of any kept point; with a step too.
+fn off_grid(v: &mut Values, s: &mut Shape) {
+    let p = any_kept(v, &mut s.points, 4);
     p.curve = bits(v.off_grid());
     if v.one_in(4) {
         p.step = 1;
@@ -150,15 +155,9 @@ fn shape(v: &mut Values, s: &mut Shape) {
     }
 }
 
-// A coordinate off the paper, of any kept point, the first or the last, in x, in y or in both; and where that is the 64th of more.
+// A coordinate off the paper, of any kept point, in x, in y or in both.
 fn off_paper(v: &mut Values, p: &mut Path) {
-    if v.one_in(6) {
-        let last = p.points[p.points.len() - 1];
-        p.points.resize(p.points.len().max(65 + v.index(6)), last);
-    }
-    let kept = p.points.len().min(64);
-    let any = v.index(kept);
-    let point = &mut p.points[v.of(&[any, any, 0, kept - 1])];
+    let point = any_kept(v, &mut p.points, 6);
     let (x, y) = (bits(v.off_paper()), bits(v.off_paper()));
     (point.x, point.y) = v.of(&[
         (x, point.y),

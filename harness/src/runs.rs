@@ -1,4 +1,4 @@
-//! Whole runs against the Rust source: the bytes that `lfo_run` of crates/oracle gives against those of reference.rs, every byte of `out`.
+//! Whole runs against the Rust source: the bytes that `lfo_run` of crates/runner gives against those of reference.rs, every byte of `out`.
 //! A run is made from its seed (adverse.rs); run i of a comparison has the seed SEED + i, so that `compare runs 1 S` plays the run of seed S alone.
 use crate::adverse::{Made, made};
 use crate::ffi::lfo_run;

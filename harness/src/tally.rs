@@ -2,8 +2,7 @@
 use crate::progress::Progress;
 use std::fmt::Display;
 
-/// The one difference that document 01 lets stand. Rust leaves open which zero it is; ours is 0. Its smallest inputs: `max` of −0 and 0, and
-/// z of `chaos::advance` from 0, 0, −0 by no step, whose box is a `max` with a bound of 0.
+/// The one difference that document 01 lets stand. Rust leaves open which zero it is; ours is 0.
 pub const ZERO_OF_MAX: &str = "the zero that `max` gives for −0 and 0";
 
 pub struct Tally {

@@ -1,7 +1,5 @@
 //! Adverse values, the same for the same seed: limits, zeros of both signs, subnormals, neighbours of round numbers, ties, any bits.
-use crate::lfo::{
-    Direction, Division, Feel, LfoType, Mode, Rate, Scale, Settings, Span, Transport,
-};
+use crate::lfo::{Direction, Division, Feel, LfoType, Mode, Rate, Scale, Settings, Span};
 use crate::questions::{on_grid, on_paper};
 
 /// SplitMix64.
@@ -255,35 +253,6 @@ impl Values {
             }
         }
     }
-
-    /// A count of cycles: within what a player reaches, with the odd ones (−0, −1e-20, 1 − 2^-53, whole numbers and their neighbours).
-    pub fn count(&mut self) -> f64 {
-        match self.below(14) {
-            0 => self.of(&[
-                0.0,
-                -0.0,
-                -1e-20,
-                1e-20,
-                1.0f64.next_down(),
-                1.0,
-                2.0,
-                -1.0,
-                5e-324,
-                -5e-324,
-            ]),
-            1 => self.unit() * 4.0 - 2.0,
-            2 => self.unit() * 1e6 - 5e5,
-            3 => self.unit() * 2f64.powi(40),
-            4 => -self.unit() * 2f64.powi(31),
-            5 => self.below(64) as f64 * 0.25 - 8.0,
-            6 => (self.below(4096) as f64 - 2048.0).next_up(),
-            7 => (self.below(4096) as f64 - 2048.0).next_down(),
-            8 => (self.below(1 << 31) as f64) * self.of(&[1.0, -1.0, 512.0]),
-            9 => -self.unit() * 1e-15,
-            10 => self.any_f64(),
-            _ => self.unit() * 3.0,
-        }
-    }
 }
 
 // ---- choices
@@ -350,27 +319,6 @@ impl Values {
         }
     }
 
-    /// Sample rate, mostly as question 6 has it, and low enough that rates reach the limit of half a cycle a sample.
-    fn sample_rate(&mut self) -> f64 {
-        match self.below(8) {
-            0 => 1000.0,
-            1 => 768_000.0,
-            2 => 1000.0 + self.unit() * 1000.0,
-            3 => self.of(&[44_100.0, 48_000.0, 96_000.0]),
-            4 => self.of(&[2000.0, 1999.0, 2001.0, 200.0, 1.0, 0.5, 0.0, -1.0]),
-            _ => 1000.0 + self.unit() * 100_000.0,
-        }
-    }
-
-    fn tempo(&mut self) -> f64 {
-        match self.below(8) {
-            0 => 0.0,
-            1 => self.of(&[-0.0, 1000.0, 120.0, 1e-300, 5e-324, -1.0, 1e9]),
-            2 => self.unit() * 1e-9,
-            _ => self.unit() * 1000.0,
-        }
-    }
-
     pub fn song_position(&mut self) -> f64 {
         match self.below(6) {
             0 => self.of(&[
@@ -396,29 +344,6 @@ impl Values {
             Scale::Percent(percent)
         } else {
             Scale::Rate(percent)
-        }
-    }
-
-    pub fn transport(&mut self) -> Transport {
-        Transport {
-            sample_rate: self.sample_rate(),
-            tempo: self.tempo(),
-            beats_per_bar: self.of(&[4.0, 3.0, 0.25, 64.0, 0.249, 0.0, -0.0, 7.0 / 3.0]),
-            playing: !self.one_in(3),
-            beats: self.song_position(),
-            seconds: self.song_position(),
-            swing: self.about(1.0),
-            scale: self.scale(),
-        }
-    }
-
-    pub fn frames(&mut self) -> usize {
-        match self.below(8) {
-            0 => 0,
-            1 => 1,
-            2 => 4096,
-            3 => self.below(1 << 40) as usize,
-            _ => self.index(4097),
         }
     }
 }

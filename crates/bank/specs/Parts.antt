@@ -36,13 +36,17 @@ module _ (s : Settings) (q : Curve) (b : Block) (frames : ℕ) (v : Voice) where
   unfoldable pub begun : Voice
   begun = begunVoice s b 0 v
 
-  -- after k frames it restarts and begins again; a restart beyond the end means the end
+  -- and after the first k frames of it
+  abbrev pub reaching : ℕ → Voice
+  reaching k = after 0 k begun
+
+  -- there it restarts and begins again; a restart beyond the end means the end
   unfoldable pub restarted : ℕ → Voice
-  restarted k = begunVoice s b k (triggeredVoice s b (after 0 k begun))
+  restarted k = begunVoice s b k (triggeredVoice s b (reaching k))
 
   -- the voice after the block
   unfoldable pub partsVoice : Pending → Voice
-  partsVoice None = after 0 frames begun
+  partsVoice None = reaching frames
   partsVoice (At at) = let k = min at frames in after k (frames - k) (restarted k)
 
   -- one value of each frame

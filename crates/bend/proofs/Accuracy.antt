@@ -17,7 +17,7 @@ use Rattle.bend.specs.Strengths.{octaveOf, strengthAt, strengthOf, Close
 use Rattle.bend.proofs.Rule.{entries-rule, entry-least}
 use Rattle.bend.proofs.Grid.{clamped-size}
 use Rattle.bend.proofs.Powers.{pow-pow, above-root, below-root}
-use Rattle.bend.proofs.Pattern.{cut, cut-low, cut-high, placeOf, entryAt, fieldAt, pattern, place-most, strength-value, strength-is}
+use Rattle.bend.proofs.Pattern.{cut, cut-low, cut-high, entryIndex, entryAt, fieldAt, pattern, entry-index-most, strength-value, strength-is}
 
 -- ---- at the index i: 2 ^ (4 × curve) is the 256th root of 2 ^ (i - 1024) or, below 1024, of 1 / 2 ^ (1024 - i)
 
@@ -29,14 +29,14 @@ module _ (i : ℕ) (H : i ≤ 2048) (a c : ℕ) (C : 0 < c) (A : a * 2 ^ 149 ≡
   abbrev f : ℕ
   f = 2 ^ (min i 1024 + 7680)
 
-  numerator : 2 ^ (i - 1024) * f ≡ v ^ 256 * 2 ^ (7680 + placeOf i)
+  numerator : 2 ^ (i - 1024) * f ≡ v ^ 256 * 2 ^ (7680 + entryIndex i)
   numerator =
       sym (pow-add 2 (i - 1024) (min i 1024 + 7680))
       ∙ ap (λ (z : ℕ). 2 ^ z) split
-      ∙ pow-add 2 (256 * octaveOf i) (7680 + placeOf i)
-      ∙ ap (λ (z : ℕ). z * 2 ^ (7680 + placeOf i)) (sym (pow-pow 2 (octaveOf i) 256))
+      ∙ pow-add 2 (256 * octaveOf i) (7680 + entryIndex i)
+      ∙ ap (λ (z : ℕ). z * 2 ^ (7680 + entryIndex i)) (sym (pow-pow 2 (octaveOf i) 256))
     where
-      split : i - 1024 + (min i 1024 + 7680) ≡ 256 * octaveOf i + (7680 + placeOf i)
+      split : i - 1024 + (min i 1024 + 7680) ≡ 256 * octaveOf i + (7680 + entryIndex i)
       split = omega arith
 
   denominator : 2 ^ (1024 - i) * f ≡ (2 ^ 34) ^ 256
@@ -62,13 +62,13 @@ module _ (i : ℕ) (H : i ≤ 2048) (a c : ℕ) (C : 0 < c) (A : a * 2 ^ 149 ≡
   -- with the entry's root from e up to e + 1, and the digits within 64 of e
   pub close-at : Close (2 ^ (i - 1024)) (2 ^ (1024 - i)) a c
   close-at =
-      let r = entries-rule (placeOf i) (place-most i H) in
-      let least = entry-least (placeOf i) (place-most i H) in
+      let r = entries-rule (entryIndex i) (entry-index-most i H) in
+      let least = entry-least (entryIndex i) (entry-index-most i H) in
       let G : 0 < c * v = mul-pos C (pow-pos (octaveOf i)) in (
-        above-root 256 (2 ^ 23 - 1) c (2 ^ 23 * a) (2 ^ (i - 1024)) (2 ^ (1024 - i)) f v (2 ^ 34) (entryAt i) (2 ^ (7680 + placeOf i)) numerator denominator
+        above-root 256 (2 ^ 23 - 1) c (2 ^ 23 * a) (2 ^ (i - 1024)) (2 ^ (1024 - i)) f v (2 ^ 34) (entryAt i) (2 ^ (7680 + entryIndex i)) numerator denominator
             (mul-pos (mul-pos (lit< tt) C) (pow-pos (octaveOf i))) (r .1)
             (le-trans (le-of-eq (regroup (2 ^ 23 - 1) c v (entryAt i + 1))) (le-trans (mul-le-mul-right (c * v) (low (entryAt i) (cut (entryAt i)) least (cut-low (entryAt i)))) (le-of-eq (sym digits)))),
-        below-root 256 (2 ^ 23 + 1) c (2 ^ 23 * a) (2 ^ (i - 1024)) (2 ^ (1024 - i)) f v (2 ^ 34) (entryAt i) (2 ^ (7680 + placeOf i)) numerator denominator
+        below-root 256 (2 ^ 23 + 1) c (2 ^ 23 * a) (2 ^ (i - 1024)) (2 ^ (1024 - i)) f v (2 ^ 34) (entryAt i) (2 ^ (7680 + entryIndex i)) numerator denominator
             (suc-ne-zero 255) (r .0)
             (lt-of-le-of-lt (le-of-eq digits) (lt-of-lt-of-le (mul-lt-mul-of-pos-right (high (entryAt i) (cut (entryAt i)) least (cut-high (entryAt i))) G) (le-of-eq (sym (regroup (2 ^ 23 + 1) c v (entryAt i)))))),
       )

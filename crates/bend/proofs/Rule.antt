@@ -8,7 +8,7 @@ use native.Mathlib.Omega.{arith}
 use lib.Dec.{T, leb, ltb, leb→le, ltb→lt}
 use lib.Pow.{pow-mono, pow-lt}
 use lib.Ieee.Fits.{and-l, and-r}
-use Rattle.bend.specs.Entries.{WholePart, entries, entryOf, EntriesRule}
+use Rattle.bend.specs.Entries.{WholePart, entries, entryOf, EntriesRule, OneWholePart}
 use Rattle.listlaws.proofs.Everywhere.{everywhere, everywhere-at}
 
 test : ℕ → ℕ → Bool
@@ -34,8 +34,7 @@ entries-rule k h = says k (entryOf k) (everywhere-at test 0 entries tested k (un
 below : (a b : ℕ) → a ^ 256 < b ^ 256 → a < b
 below a b h = lt-of-not-le (λ (l : b ≤ a). not-le-of-lt h (pow-le-pow-left l 256))
 
--- one number only is the whole part
-pub only-one : (k e f : ℕ) → WholePart k e → WholePart k f → e ≡ f
+pub only-one : OneWholePart
 only-one k e f p q = join (below e (f + 1) (lt-of-le-of-lt (p .0) (q .1))) (below f (e + 1) (lt-of-le-of-lt (q .0) (p .1)))
   where
     join : e < f + 1 → f < e + 1 → e ≡ f

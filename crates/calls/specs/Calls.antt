@@ -1,6 +1,6 @@
 -- The calls on a player: the number that each answers, the player that it leaves, and what a block writes. Assumes nothing.
 use Prim.Native.Nat.{ℕ}
-use mathlib.Core.Bool.{Bool, true, cond}
+use mathlib.Core.Bool.{Bool, true, false, cond}
 use mathlib.Core.List.{List, [], _∷_, _++_}
 use lib.Dec.{eqb}
 use lib.ListN.{length, drop}
@@ -32,6 +32,24 @@ pub data Call : Type 0 where
   bus : ℕ → Float → Call
   phase : TransportCodes → Call
   block : TransportCodes → ℕ → RestartCodes → List Float → List Float → Call
+
+-- does it set something: "An edit is an accepted call that sets settings, shape, path or a bus"
+abbrev pub isEdit : Call → Bool
+isEdit (settings c) = true
+isEdit (shape c) = true
+isEdit (path c) = true
+isEdit (bus k value) = true
+isEdit (phase t) = false
+isEdit (block t frames restart x y) = false
+
+-- what f makes of a block; of any other call u
+abbrev pub byBlock : {A : Type 0} → A → Call → (TransportCodes → ℕ → RestartCodes → List Float → List Float → A) → A
+byBlock u (settings c) f = u
+byBlock u (shape c) f = u
+byBlock u (path c) f = u
+byBlock u (bus k value) f = u
+byBlock u (phase t) f = u
+byBlock u (block t frames restart x y) f = f t frames restart x y
 
 -- the questions that are put to it
 unfoldable pub questions : State → Call → List Question

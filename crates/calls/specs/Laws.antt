@@ -18,7 +18,7 @@ use Rattle.codes.specs.declared.RestartCodes.{RestartCodes}
 use Rattle.questions.specs.Questions.{Question, firstNo, blockQuestions}
 use Rattle.calls.specs.State.{State}
 use Rattle.calls.specs.Blocks.{pendingOf, values}
-use Rattle.calls.specs.Calls.{Call, settings, shape, path, bus, phase, block, questions, answer, accepts, made, step, after, buffer}
+use Rattle.calls.specs.Calls.{Call, bus, phase, block, byBlock, questions, answer, accepts, made, step, after, buffer}
 
 -- ---- the answer: "the first "no" gives the number .. Success is 0"
 
@@ -89,12 +89,7 @@ ClockCounts =
 
 -- those of one call: a block's, where it is accepted
 abbrev pub framesOf : State → Call → ℕ
-framesOf p (settings c) = 0
-framesOf p (shape c) = 0
-framesOf p (path c) = 0
-framesOf p (bus k value) = 0
-framesOf p (phase t) = 0
-framesOf p (block c frames restart x y) = cond (accepts p (block c frames restart x y)) frames 0
+framesOf p c = byBlock 0 c λ t frames restart x y. cond (accepts p c) frames 0
 
 abbrev pub CallCounts : Type 0
 CallCounts = (p : State) (c : Call) → step p c .played ≡ p .played + framesOf p c

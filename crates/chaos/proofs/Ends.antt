@@ -4,7 +4,7 @@ use mathlib.Core.Logic.{_⊎_, inl, inr}
 use mathlib.Core.Bool.{Bool, true, false, not}
 use lib.IntN.{pos}
 use lib.Dec.{T}
-use lib.Ieee.{Float, nan, inf, fin, binary32, lt, eq, le, isNan, fits, ne}
+use lib.Ieee.{Float, nan, inf, fin, binary32, lt, eq, le, isNan, fits}
 use lib.Ieee.Bits.{is-true}
 use Rattle.floatlaws.specs.Extrema.{signed, maxOf, minOf}
 use Rattle.floatlaws.proofs.Tests.{decide, not-so, or-split}

@@ -18,7 +18,7 @@ use Rattle.floatlaws.specs.Multiples.{isMultiple, multiplesIn}
 use Rattle.floatlaws.proofs.Extrema.{clamp-inside, clamp-bounds, clamp-fits}
 use Rattle.floatlaws.proofs.Order.{le-says, lt-not-le}
 use Rattle.floatlaws.proofs.Multiples.{multiple-exact, scaled-value, multiple-tested, unsigned-value}
-use Rattle.leg.specs.Paper.{onPaper, Squares, squaresOf}
+use Rattle.leg.specs.Paper.{onPaper, squaresOf, PaperExact, PaperKept}
 
 abbrev scaled : Float → Float
 scaled x = mul binary64 x f64-4096
@@ -105,33 +105,31 @@ squares-most c = go (clampOf c f32-0 f32-1) (clamped c)
 
 -- ---- on the paper
 
-module _ (c : Float) (on : T (onPaper c)) where
-  parts : T (isMultiple 4096 c) × T (le f32-0 c) × T (le c f32-1)
-  unfolding onPaper
-  parts =
-      let a = isMultiple 4096 c && le f32-0 c in
-      let b = and-l a (le c f32-1) on in
-      (and-l (isMultiple 4096 c) (le f32-0 c) b, and-r (isMultiple 4096 c) (le f32-0 c) b, and-r a (le c f32-1) on)
+parts : (c : Float) → T (onPaper c) → T (isMultiple 4096 c) × T (le f32-0 c) × T (le c f32-1)
+unfolding onPaper
+parts c on =
+    let a = isMultiple 4096 c && le f32-0 c in
+    let b = and-l a (le c f32-1) on in
+    (and-l (isMultiple 4096 c) (le f32-0 c) b, and-r (isMultiple 4096 c) (le f32-0 c) b, and-r a (le c f32-1) on)
 
-  not-less : (x y : Float) → T (le y x) → lt x y ≡ false
-  not-less x y h = go (lt x y) (λ (u : T (lt x y)). lt-not-le x y u h)
-    where
-      go : (b : Bool) → (T b → ⊥) → b ≡ false
-      go true f = absurd (f tt)
-      go false f = refl
+not-less : (x y : Float) → T (le y x) → lt x y ≡ false
+not-less x y h = go (lt x y) (λ (u : T (lt x y)). lt-not-le x y u h)
+  where
+    go : (b : Bool) → (T b → ⊥) → b ≡ false
+    go true f = absurd (f tt)
+    go false f = refl
 
-  -- the player keeps it as it is
-  pub paper-kept : clampOf c f32-0 f32-1 ≡ c
-  paper-kept = sym (clamp-inside c f32-0 f32-1 (not-less c f32-0 (parts .1)) (not-less f32-1 c (parts .2)))
+pub paper-kept : PaperKept
+paper-kept c on = sym (clamp-inside c f32-0 f32-1 (not-less c f32-0 (parts c on .1)) (not-less f32-1 c (parts c on .2)))
 
-  pub paper-exact : Squares c (squaresOf c)
-  paper-exact = rw (sym squares) (record { value = multiple-exact 4096 c (parts .0); sign = no-sign c (parts .1) })
-    where
-      squares : multiplesIn 4096 c ≡ squaresOf c
-      squares = unfold squaresOf in ap (multiplesIn 4096) (sym paper-kept)
+pub paper-exact : PaperExact
+paper-exact c on = rw (sym squares) (record { value = multiple-exact 4096 c (parts c on .0); sign = no-sign c (parts c on .1) })
+  where
+    squares : multiplesIn 4096 c ≡ squaresOf c
+    squares = unfold squaresOf in ap (multiplesIn 4096) (sym (paper-kept c on))
 
-      no-sign : (x : Float) → T (le f32-0 x) → T (signed x) → multiplesIn 4096 x ≡ 0
-      no-sign nan h k = absurd k
-      no-sign (inf s) h k = unfold multiplesIn in refl
-      no-sign (fin true m e) h k = unfold multiplesIn in (rw (none m e h) (zero-div (down e)))
-      no-sign (fin false m e) h k = absurd k
+    no-sign : (x : Float) → T (le f32-0 x) → T (signed x) → multiplesIn 4096 x ≡ 0
+    no-sign nan h k = absurd k
+    no-sign (inf s) h k = unfold multiplesIn in refl
+    no-sign (fin true m e) h k = unfold multiplesIn in (rw (none m e h) (zero-div (down e)))
+    no-sign (fin false m e) h k = absurd k

@@ -6,14 +6,14 @@ use Prim.Native.Nat.{ℕ, _+_, _^_, _≤_, _<_, zero-le}
 use native.Mathlib.Nat.{le-trans, le-of-eq, lt-of-lt-of-le, lt-irrefl, add-le-add, mul-le-mul-left, mul-le-mul-right, mul-one, eq-zero-or-pos}
 use native.Mathlib.Omega.{arith}
 use lib.Dec.{T, lit≤, lit<}
-use lib.Ieee.{Float, binary32, ofBits, le}
+use lib.Ieee.{Float, binary32, ofBits, round, le}
 use lib.Ieee.Bits.{ofBits-fits}
 use lib.Ieee.Exact.{HasValue}
 use lib.Ieee.Order.{le-of-values}
 use lib.Pow.{pow-pos}
-use Rattle.floatlaws.specs.Numbers.{Between, f32-0, f32-2}
-use Rattle.leg.specs.Paper.{onPaper, squaresOf, apart, sumOfSquares}
-use Rattle.leg.specs.Root.{Units, NearestRoot, rootOf, legOf, LegBetween}
+use Rattle.floatlaws.specs.Numbers.{Between, f32, f32-0, f32-2}
+use Rattle.leg.specs.Paper.{squaresOf, apart, sumOfSquares}
+use Rattle.leg.specs.Root.{Units, NearestRoot, rootOf, legOf, LegRule, LegIn, LegLeast}
 use Rattle.leg.proofs.Halves.{le-or-lt, sq-le}
 use Rattle.leg.proofs.Roots.{none-is, root-nearest}
 use Rattle.leg.proofs.Coordinates.{squares-most, paper-exact}
@@ -54,7 +54,7 @@ sum-most ax ay bx by = add-le-add (sq-le (gap-most ax bx)) (sq-le (gap-most ay b
 pub leg-nearest : (ax ay bx by : Float) → NearestRoot (sumOfSquares ax ay bx by) (legOf ax ay bx by)
 leg-nearest ax ay bx by = root-nearest (sumOfSquares ax ay bx by) (sum-most ax ay bx by)
 
-pub leg-between : (ax ay bx by : Float) → T (onPaper ax) → T (onPaper ay) → T (onPaper bx) → T (onPaper by) → LegBetween ax ay bx by (legOf ax ay bx by)
+pub leg-between : LegRule
 leg-between ax ay bx by a b c d =
     record {
       from-x = squaresOf ax;
@@ -66,7 +66,7 @@ leg-between ax ay bx by a b c d =
       nearest = leg-nearest ax ay bx by;
     }
 
-pub leg-in : (ax ay bx by : Float) → Between f32-0 (legOf ax ay bx by) f32-2
+pub leg-in : LegIn
 leg-in ax ay bx by = nearest-in (sumOfSquares ax ay bx by) (legOf ax ay bx by) (sum-most ax ay bx by) (leg-nearest ax ay bx by)
 
 -- ---- a leg is 0 or at least one square
@@ -94,8 +94,12 @@ root-least n r some z =
     go (inl k) = k
     go (inr k) = absurd (lt-irrefl _ (lt-of-lt-of-le (z .above one-square (2 ^ 137) square-units k) (le-trans (sq-le (near (z .units) (2 ^ 137) k)) (le-trans (lit≤ tt) (mul-le-mul-left 4 (mul-le-mul-right (4 ^ 137) some))))))
 
-pub leg-least : (ax ay bx by : Float) → (legOf ax ay bx by ≡ f32-0) ⊎ T (le one-square (legOf ax ay bx by))
-leg-least ax ay bx by = go (sumOfSquares ax ay bx by) (leg-nearest ax ay bx by) (eq-zero-or-pos (sumOfSquares ax ay bx by))
+one-square-is : one-square ≡ f32 1 4096
+unfolding ofBits round
+one-square-is = refl
+
+pub leg-least : LegLeast
+leg-least ax ay bx by = rw (sym one-square-is) (go (sumOfSquares ax ay bx by) (leg-nearest ax ay bx by) (eq-zero-or-pos (sumOfSquares ax ay bx by)))
   where
     go : (n : ℕ) → NearestRoot n (rootOf n) → (n ≡ 0) ⊎ (0 < n) → (rootOf n ≡ f32-0) ⊎ T (le one-square (rootOf n))
     go n z (inl e) = inl (ap rootOf e ∙ sym (none-is .is))

@@ -34,3 +34,13 @@ a ² = a * a
 -- "the sum of squares" of the leg from (ax, ay) to (bx, by), in squares of the paper: up to 2 * 4,096²
 abbrev pub sumOfSquares : Float → Float → Float → Float → ℕ
 sumOfSquares ax ay bx by = apart (squaresOf ax) (squaresOf bx) ² + apart (squaresOf ay) (squaresOf by) ²
+
+-- ---- what holds of a coordinate on the paper, proved in proofs/Coordinates.antt
+
+-- it is its number of squares over 4,096 exactly
+abbrev pub PaperExact : Type 0
+PaperExact = (c : Float) → T (onPaper c) → Squares c (squaresOf c)
+
+-- and clamping keeps it, so the player keeps it as it was handed in
+abbrev pub PaperKept : Type 0
+PaperKept = (c : Float) → T (onPaper c) → clampOf c f32-0 f32-1 ≡ c

@@ -1,13 +1,14 @@
 -- The root of a sum of squares n over 4,096, as an f32: document 02, W-202. Assumes nothing.
 use Prim.Native.Nat.{ℕ, zero, suc, _+_, _-_, _*_, _/_, _^_, _≤_, _<_}
 use mathlib.Core.Path.{_≡_}
+use mathlib.Core.Logic.{_⊎_}
 use mathlib.Core.Bool.{false, cond}
 use lib.Dec.{T, eqb, leb}
 use lib.Count.{leadingZeros}
-use lib.Ieee.{Float, binary32, fits, ofBits}
+use lib.Ieee.{Float, binary32, fits, le, ofBits}
 use lib.Ieee.Exact.{HasValue}
-use Rattle.floatlaws.specs.Numbers.{f32-0}
-use Rattle.leg.specs.Paper.{Squares, apart, _², sumOfSquares}
+use Rattle.floatlaws.specs.Numbers.{Between, f32, f32-0, f32-2}
+use Rattle.leg.specs.Paper.{onPaper, Squares, apart, _², sumOfSquares}
 
 -- ---- "the f32 nearest to the root of the sum of squares, ties to even, judged by integer squares"
 
@@ -49,6 +50,20 @@ rootOf n = cond (eqb n 0) f32-0 (ofBits binary32 ((137 - scaleOf n) * 2 ^ 23 + s
 abbrev pub RootRule : Type 0
 RootRule = (n : ℕ) → n ≤ 2 ^ 25 → NearestRoot n (rootOf n) × ((r : Float) → NearestRoot n r → r ≡ rootOf n)
 
+-- "ties to even" has nothing to settle: the root of 4 * z, halved, is never half way between two whole numbers, as the square of an odd number is odd
+abbrev pub NoTie : Type 0
+NoTie = (z m : ℕ) → 0 < m → Half (4 * z) m → (2 * m - 1) ² < 4 * z
+
+-- the root by its significand: m has 24 digits, or is the next power of two, and the root is m / 2 ^ (s + 12), with 4 * n * 4 ^ s strictly between (2 m - 1)² and (2 m + 1)²
+pub record BySignificand (n s m : ℕ) (r : Float) : Type 0 where
+  pub digits : (2 ^ 23 ≤ m) × (m ≤ 2 ^ 24)
+  pub low : (2 * m - 1) ² < 4 * (n * 4 ^ s)
+  pub high : 4 * (n * 4 ^ s) < (2 * m + 1) ²
+  pub value : HasValue r false m (2 ^ (s + 12))
+
+abbrev pub SignificandRule : Type 0
+SignificandRule = (n : ℕ) → 0 < n → n ≤ 2 ^ 25 → BySignificand n (scaleOf n) (significandOf (4 * (n * 4 ^ scaleOf n))) (rootOf n)
+
 -- ---- a leg
 
 -- from (ax, ay) to (bx, by)
@@ -69,3 +84,15 @@ pub record LegBetween (ax ay bx by r : Float) : Type 0 where
   pub from : Squares ax from-x × Squares ay from-y
   pub to : Squares bx to-x × Squares by to-y
   pub nearest : NearestRoot (apart from-x to-x ² + apart from-y to-y ²) r
+
+-- of every leg: on the paper it is the leg between its ends
+abbrev pub LegRule : Type 0
+LegRule = (ax ay bx by : Float) → T (onPaper ax) → T (onPaper ay) → T (onPaper bx) → T (onPaper by) → LegBetween ax ay bx by (legOf ax ay bx by)
+
+-- wherever its ends are it lies within 0 to 2
+abbrev pub LegIn : Type 0
+LegIn = (ax ay bx by : Float) → Between f32-0 (legOf ax ay bx by) f32-2
+
+-- and it is 0 or at least one square
+abbrev pub LegLeast : Type 0
+LegLeast = (ax ay bx by : Float) → (legOf ax ay bx by ≡ f32-0) ⊎ T (le (f32 1 4096) (legOf ax ay bx by))

@@ -19,10 +19,10 @@ use Rattle.floatlaws.proofs.NoNan.{Number}
 use Rattle.floatlaws.proofs.Order.{le-left, le-refl-at}
 use Rattle.floatlaws.proofs.Ascend.{steps-ascend}
 use Rattle.floatlaws.proofs.Sums.{AtMost, Term, Positive, below-cross, round-at-most, sum-at-most, sum-grows, share-grows, share-all, share-none, share-number, positive-value, positive-above}
-use Rattle.points.specs.Arrays.{Ascends}
 use Rattle.listlaws.proofs.Tabulation.{getD-padded}
 use Rattle.points.proofs.Floats.{zero-one}
 use Rattle.path_segments.specs.Times.{sumTo, shareOf, timeAt, timesOf, LegsIn}
+use Rattle.path_segments.specs.Laws.{LegTimesRule}
 
 -- ---- a leg
 
@@ -135,16 +135,13 @@ module _ (legs : List Float) (n : ℕ) (ok : LegsIn legs n) (room : n ≤ 64) wh
       go true e = subst (Timed n) (fun-ext (time-share e)) (shares n (sumTo legs) (sums (yes-so e)))
       go false e = subst (Timed n) (fun-ext (time-even some e)) (shares n (λ j. ofInt binary32 (pos j)) (counts n some room))
 
-  pub times-end : 0 < n → timeAt legs n n ≡ f32-1
-  times-end some = timed some .end
-
 no-segments : (legs : List Float) → timeAt legs 0 0 ≡ f32-0
 unfolding timeAt shareOf sumTo lt ofBits
 no-segments legs = refl
 
-pub times-start : (legs : List Float) (n : ℕ) → LegsIn legs n → n ≤ 64 → timeAt legs n 0 ≡ f32-0
-times-start legs zero ok room = no-segments legs
-times-start legs (suc n) ok room = timed legs (suc n) ok room (zero-lt-suc n) .start
+time-start : (legs : List Float) (n : ℕ) → LegsIn legs n → n ≤ 64 → timeAt legs n 0 ≡ f32-0
+time-start legs zero ok room = no-segments legs
+time-start legs (suc n) ok room = timed legs (suc n) ok room (zero-lt-suc n) .start
 
 time-le : (legs : List Float) (n : ℕ) → LegsIn legs n → n ≤ 64 → (i j : ℕ) → i ≤ j → j ≤ n → T (le (timeAt legs n i) (timeAt legs n j))
 time-le legs zero ok room i j p q =
@@ -155,7 +152,16 @@ time-le legs (suc n) ok room i j p q =
     let t = timed legs (suc n) ok room (zero-lt-suc n) in
     steps-ascend (timeAt legs (suc n)) (suc n) (t .number) (t .ascend) i j p q
 
-pub times-ascend : (legs : List Float) (n : ℕ) → LegsIn legs n → n ≤ 64 → Ascends (timesOf legs n) (suc n)
+-- ---- in the array
+
+pub times-rule : LegTimesRule
 unfolding timesOf
-times-ascend legs n ok room i j p q =
-    rw (getD-padded (timeAt legs n) 65 f32-0 (suc n) i nan (omega arith), getD-padded (timeAt legs n) 65 f32-0 (suc n) j nan q) (time-le legs n ok room i j p (omega arith))
+times-rule legs n ok room =
+    record {
+      ascend = λ i j p q. rw (at i (omega arith), at j q) (time-le legs n ok room i j p (omega arith));
+      start = at 0 (zero-lt-suc n) ∙ time-start legs n ok room;
+      end = λ some. at n (le-refl (suc n)) ∙ timed legs n ok room some .end;
+    }
+  where
+    at : (j : ℕ) → j < suc n → getD (timesOf legs n) j nan ≡ timeAt legs n j
+    at j h = unfold timesOf in getD-padded (timeAt legs n) 65 f32-0 (suc n) j nan h

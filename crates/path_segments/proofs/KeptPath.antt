@@ -18,7 +18,8 @@ use Rattle.points.proofs.Partition.{partition-le}
 use Rattle.points.proofs.Bounds.{lower, upper, everywhere, place-holds, holds-place}
 use Rattle.path_segments.specs.declared.PathSegment.{PathSegment}
 use Rattle.path_segments.specs.Times.{segmentsOf}
-use Rattle.path_segments.specs.Segments.{emptyPath, pathContains, legSegment, pathSegmentAt, pathSegment}
+use Rattle.path_segments.specs.Segments.{pathContains, legSegment, pathSegmentAt, pathSegment}
+use Rattle.path_segments.specs.Laws.{PathHolds, PathKept, PathVoid}
 use Rattle.path_segments.proofs.Cases.{no-points, no-segment, at-place}
 
 module _ (xs ys bends times : List Float) (len : ℕ) (closed : Bool) where
@@ -57,28 +58,31 @@ module _ (xs ys bends times : List Float) (len : ℕ) (closed : Bool) where
     same-place : (p : Float) (i : ℕ) → i ≤ suc n → T (pathContains (pathSegmentAt xs ys bends times len closed n i) p) → partitionPoint times (suc n) p ≡ i
     same-place p i h holds = holds-place times (suc n) up p i h (rw (segment-lo n i h, segment-hi n i h) at holds)
 
-    -- ---- of a search
+-- ---- of a search
 
-    pub found-holds : (t : Float) → T (finite t) → T (pathContains (pathSegment xs ys bends times len closed t) t)
-    found-holds t f = go (ℕ-discrete len 0) (ℕ-discrete n 0)
-      where
-        go : Dec (len ≡ 0) → Dec (n ≡ 0) → T (pathContains (pathSegment xs ys bends times len closed t) t)
-        go (yes none) legs = rw (no-points xs ys bends times len closed t none) (everywhere t f)
-        go (no some) (yes none) = rw (no-segment xs ys bends times len closed t n some refl none) (everywhere t f)
-        go (no some) (no legs) = rw (at-place xs ys bends times len closed t n some refl (partitionPoint times (suc n) t) legs refl) (place-found t f)
+pub found-holds : PathHolds
+found-holds xs ys bends times len closed up t f = go (ℕ-discrete len 0) (ℕ-discrete (segmentsOf len closed) 0)
+  where
+    go : Dec (len ≡ 0) → Dec (segmentsOf len closed ≡ 0) → T (pathContains (pathSegment xs ys bends times len closed t) t)
+    go (yes none) legs = rw (no-points xs ys bends times len closed t none) (everywhere t f)
+    go (no some) (yes none) = rw (no-segment xs ys bends times len closed t (segmentsOf len closed) some refl none) (everywhere t f)
+    go (no some) (no legs) =
+        let n = segmentsOf len closed in
+        rw (at-place xs ys bends times len closed t n some refl (partitionPoint times (suc n) t) legs refl) (place-found xs ys bends times len closed up t f)
 
-    pub kept-path : (q p : Float) → T (pathContains (pathSegment xs ys bends times len closed q) p) → pathSegment xs ys bends times len closed q ≡ pathSegment xs ys bends times len closed p
-    kept-path q p holds = go (ℕ-discrete len 0) (ℕ-discrete n 0)
-      where
-        go : Dec (len ≡ 0) → Dec (n ≡ 0) → pathSegment xs ys bends times len closed q ≡ pathSegment xs ys bends times len closed p
-        go (yes none) legs = no-points xs ys bends times len closed q none ∙ sym (no-points xs ys bends times len closed p none)
-        go (no some) (yes none) = no-segment xs ys bends times len closed q n some refl none ∙ sym (no-segment xs ys bends times len closed p n some refl none)
-        go (no some) (no legs) =
-            let i = partitionPoint times (suc n) q in
-            let e = at-place xs ys bends times len closed q n some refl i legs refl in
-            e
-            ∙ sym (at-place xs ys bends times len closed p n some refl i legs (sym (same-place p i (partition-le times (suc n) q) (subst (λ (s : PathSegment). T (pathContains s p)) e holds))))
+pub kept-path : PathKept
+kept-path xs ys bends times len closed up q p holds = go (ℕ-discrete len 0) (ℕ-discrete (segmentsOf len closed) 0)
+  where
+    go : Dec (len ≡ 0) → Dec (segmentsOf len closed ≡ 0) → pathSegment xs ys bends times len closed q ≡ pathSegment xs ys bends times len closed p
+    go (yes none) legs = no-points xs ys bends times len closed q none ∙ sym (no-points xs ys bends times len closed p none)
+    go (no some) (yes none) =
+        let n = segmentsOf len closed in no-segment xs ys bends times len closed q n some refl none ∙ sym (no-segment xs ys bends times len closed p n some refl none)
+    go (no some) (no legs) =
+        let n = segmentsOf len closed in
+        let i = partitionPoint times (suc n) q in
+        let e = at-place xs ys bends times len closed q n some refl i legs refl in
+        e
+        ∙ sym (at-place xs ys bends times len closed p n some refl i legs (sym (same-place xs ys bends times len closed up p i (partition-le times (suc n) q) (subst (λ (s : PathSegment). T (pathContains s p)) e holds))))
 
--- the void segment holds nothing
-pub empty-holds-nothing : (t : Float) → T (pathContains emptyPath t) → ⊥
+pub empty-holds-nothing : PathVoid
 empty-holds-nothing t h = lt-not-le t f32-0 (and-r (le f32-0 t) (lt t f32-0) h) (and-l (le f32-0 t) (lt t f32-0) h)

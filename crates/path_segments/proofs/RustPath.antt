@@ -18,6 +18,7 @@ use Rattle.listlaws.proofs.LastWhere.{back, later}
 use Rattle.points.proofs.Partition.{partition-le, partition-at, partition-after, partition-first, partition-later}
 use Rattle.path_segments.specs.Times.{segmentsOf}
 use Rattle.path_segments.specs.Segments.{pathSegmentAt, pathSegment, rustPathSegment}
+use Rattle.path_segments.specs.Laws.{PathRust}
 use Rattle.path_segments.proofs.Cases.{no-points, no-segment, at-place}
 
 module _ (xs ys bends times : List Float) (len : ℕ) (closed : Bool) where
@@ -57,12 +58,14 @@ module _ (xs ys bends times : List Float) (len : ℕ) (closed : Bool) where
                 back k,
               )
 
-    pub rust-path : pathSegment xs ys bends times len closed t ≡ rustPathSegment xs ys bends times len closed t
-    unfolding rustPathSegment
-    rust-path = go (ℕ-discrete len 0) (ℕ-discrete n 0)
-      where
-        go : Dec (len ≡ 0) → Dec (n ≡ 0) → pathSegment xs ys bends times len closed t ≡ rustPathSegment xs ys bends times len closed t
-        go (yes none) legs = no-points xs ys bends times len closed t none ∙ rw (eq-eqb len 0 none)
-        go (no some) (yes none) = no-segment xs ys bends times len closed t n some refl none ∙ rw (ne-eqb len 0 some, eq-eqb n 0 none)
-        go (no some) (no legs) =
-            at-place xs ys bends times len closed t n some refl (partitionPoint times (suc n) t) legs refl ∙ at-some some legs (partitionPoint times (suc n) t) refl
+pub rust-path : PathRust
+unfolding rustPathSegment
+rust-path xs ys bends times len closed up start t number = go (ℕ-discrete len 0) (ℕ-discrete (segmentsOf len closed) 0)
+  where
+    go : Dec (len ≡ 0) → Dec (segmentsOf len closed ≡ 0) → pathSegment xs ys bends times len closed t ≡ rustPathSegment xs ys bends times len closed t
+    go (yes none) legs = no-points xs ys bends times len closed t none ∙ rw (eq-eqb len 0 none)
+    go (no some) (yes none) = no-segment xs ys bends times len closed t (segmentsOf len closed) some refl none ∙ rw (ne-eqb len 0 some, eq-eqb (segmentsOf len closed) 0 none)
+    go (no some) (no legs) =
+        let n = segmentsOf len closed in
+        at-place xs ys bends times len closed t n some refl (partitionPoint times (suc n) t) legs refl
+        ∙ at-some xs ys bends times len closed up start t number some legs (partitionPoint times (suc n) t) refl

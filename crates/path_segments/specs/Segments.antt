@@ -16,7 +16,7 @@ use Rattle.path_segments.specs.Times.{segmentsOf}
 abbrev pub pathHold : Float → Float → Float → Float → PathSegment
 pathHold lo hi x y = record { lo = lo; hi = hi; t0 = f32-0; «inv_w» = f32-0; ax = x; dx = f32-0; nx = f32-0; ay = y; dy = f32-0; ny = f32-0 }
 
--- The void segment, all zeros: it holds no t (`empty-holds-nothing` of proofs/KeptPath.antt). It stands for the Rust's `PathSegment::default()` and for the same with a lo of NaN, which hold none either.
+-- The void segment, all zeros: it holds no t (`PathVoid` of Laws.antt). It stands for the Rust's `PathSegment::default()` and for the same with a lo of NaN, which hold none either.
 abbrev pub emptyPath : PathSegment
 emptyPath = pathHold f32-0 f32-0 f32-0 f32-0
 

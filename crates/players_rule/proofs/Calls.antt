@@ -1,7 +1,7 @@
 -- What a trace's calls wrote is what the definitions of crate `restart` say of its list of calls. Assumes nothing.
 use Prim.Native.Nat.{ℕ}
 use mathlib.Core.Path.{_≡_, refl, sym, ap, _∙_}
-use mathlib.Core.Bool.{cond}
+use mathlib.Core.Bool.{Bool, true, false, cond}
 use mathlib.Core.List.{List, [], _∷_}
 use lib.Dec.{eqb}
 use lib.ListN.{take}
@@ -10,7 +10,7 @@ use Rattle.codes.specs.declared.TransportCodes.{TransportCodes}
 use Rattle.codes.specs.declared.RestartCodes.{RestartCodes}
 use Rattle.calls.specs.State.{State}
 use Rattle.calls.specs.Blocks.{pendingOf}
-use Rattle.calls.specs.Calls.{Call, settings, shape, path, bus, phase, block, accepts, step}
+use Rattle.calls.specs.Calls.{Call, settings, shape, path, bus, phase, block, isEdit, byBlock, accepts, step}
 use Rattle.calls.proofs.Answers.{phase-keeps}
 use Rattle.player.specs.declared.Player.{Player}
 use Rattle.player.specs.declared.Played.{Played}
@@ -29,23 +29,22 @@ read-is y-side p t n restart x y r x′ y′ m = ap (take n) (m .y-is)
 
 -- ---- a call that sets something ends what is heard where it is accepted
 
+set-ends : {A : Type 0} (c : Call) (later : List A) (f : TransportCodes → ℕ → RestartCodes → List Float → List Float → List A) → Sets c
+    → byBlock (cond (isEdit c) [] later) c f ≡ []
+set-ends (settings c) later f e = refl
+set-ends (shape c) later f e = refl
+set-ends (path c) later f e = refl
+set-ends (bus k z) later f e = refl
+set-ends (phase t) later f e = absurd e
+set-ends (block t n restart x y) later f e = absurd e
+
 set-heard : (side : Side) (s : State) (c : Call) (cs : List Call) → Sets c → heard side s (c ∷ cs) ≡ cond (accepts s c) [] (heard side (step s c) cs)
 unfolding heard
-set-heard side s (settings c) cs e = refl
-set-heard side s (shape c) cs e = refl
-set-heard side s (path c) cs e = refl
-set-heard side s (bus k z) cs e = refl
-set-heard side s (phase t) cs e = absurd e
-set-heard side s (block t n restart x y) cs e = absurd e
+set-heard side s c cs e = ap (λ (l : List Float). cond (accepts s c) l (heard side (step s c) cs)) (set-ends c _ _ e)
 
 set-window : (s : State) (c : Call) (cs : List Call) → Sets c → window s (c ∷ cs) ≡ cond (accepts s c) [] (window (step s c) cs)
 unfolding window
-set-window s (settings c) cs e = refl
-set-window s (shape c) cs e = refl
-set-window s (path c) cs e = refl
-set-window s (bus k z) cs e = refl
-set-window s (phase t) cs e = absurd e
-set-window s (block t n restart x y) cs e = absurd e
+set-window s c cs e = ap (λ (l : List TransportCodes). cond (accepts s c) l (window (step s c) cs)) (set-ends c _ _ e)
 
 -- ---- up to the next restart or edit
 
@@ -61,12 +60,18 @@ blocks-by restart t e g = rw (e, g) refl
 ends-by : {A : Type 0} {a a′ : ℕ} {h h′ : List A} → a ≡ a′ → h ≡ h′ → cond (eqb a 0) [] h ≡ cond (eqb a′ 0) [] h′
 ends-by e g = rw (e, g) refl
 
+-- a phase read goes on, accepted or refused
+same-either : {A : Type 0} {a : A} (t : Bool) → a ≡ cond t a a
+same-either true = refl
+same-either false = refl
+
 pub written-heard : {p q : Player} {cs : List Call} (side : Side) (l : Trace p cs q) → written side l ≡ heard side (stateOf p) cs
 unfolding written heard
 written-heard side (none p) = refl
 written-heard side (sets p c cs q r e m l) =
     ends-by (m .answer-is) (written-heard side l ∙ ap (λ (s : State). heard side s cs) (m .state-is)) ∙ sym (set-heard side (stateOf p) c cs e)
-written-heard side (reads p t cs q r m l) = written-heard side l ∙ ap (λ (s : State). heard side s cs) (sym (phase-keeps (stateOf p) t))
+written-heard side (reads p t cs q r m l) =
+    written-heard side l ∙ ap (λ (s : State). heard side s cs) (sym (phase-keeps (stateOf p) t)) ∙ same-either (accepts (stateOf p) (phase t))
 written-heard side (plays p t n restart x y cs q r x′ y′ m l) =
     frames-by restart n (m .answer-is) (read-is side p t n restart x y r x′ y′ m) (written-heard side l ∙ ap (λ (s : State). heard side s cs) (m .state-is))
 
@@ -75,6 +80,7 @@ unfolding transports window
 transports-window (none p) = refl
 transports-window (sets p c cs q r e m l) =
     ends-by (m .answer-is) (transports-window l ∙ ap (λ (s : State). window s cs) (m .state-is)) ∙ sym (set-window (stateOf p) c cs e)
-transports-window (reads p t cs q r m l) = transports-window l ∙ ap (λ (s : State). window s cs) (sym (phase-keeps (stateOf p) t))
+transports-window (reads p t cs q r m l) =
+    transports-window l ∙ ap (λ (s : State). window s cs) (sym (phase-keeps (stateOf p) t)) ∙ same-either (accepts (stateOf p) (phase t))
 transports-window (plays p t n restart x y cs q r x′ y′ m l) =
     blocks-by restart t (m .answer-is) (transports-window l ∙ ap (λ (s : State). window s cs) (m .state-is))

@@ -1,16 +1,15 @@
 -- The restart rule of players holds: what two sessions left in their buffers is what the rule of lists of calls is about. Assumes nothing.
 use Prim.Native.Nat.{_<_}
 use mathlib.Core.Path.{_≡_, refl, sym, ap, _∙_, subst}
-use mathlib.Core.Bool.{true}
-use mathlib.Core.List.{List, _∷_, _++_}
+use mathlib.Core.List.{List}
 use lib.ListN.{length}
 use lib.Ieee.{Float}
 use borrow.Author.Tests.{eq-eqb}
 use Rattle.calls.specs.State.{State}
-use Rattle.calls.specs.Calls.{Call, block, answer, makes, made, step, after}
+use Rattle.calls.specs.Calls.{Call, block, answer, step, after}
 use Rattle.player.specs.Player.{stateOf}
 use Rattle.restart.specs.Heard.{Side}
-use Rattle.restart.specs.Rule.{RestartIn, AtRestart, Hypotheses}
+use Rattle.restart.specs.Rule.{RestartFrom, AtRestart, Hypotheses, JustMade, newPlayer}
 use Rattle.restart.specs.Rule as Rule
 use Rattle.restart.proofs.RestartRule.{restart-rule}
 use Rattle.players_rule.specs.Rule.{Session, writtenFrom, throughout, atRestart, PlayersRule}
@@ -21,23 +20,18 @@ module _ (s : Session) where
   abbrev call : Call
   call = block (s .transport) (s .frames) (s .restart) (s .x) (s .y)
 
-  abbrev from : State
-  from = made (s .history .codes) (s .history .seed)
-
-  abbrev calls : List Call
-  calls = s .history .calls ++ (call ∷ s .rest)
-
-  pub accepts-making : makes (s .history .codes) ≡ true
-  accepts-making = eq-eqb _ 0 (sym (s .history .makes .answer-is) ∙ s .made)
+  pub player : JustMade
+  player = record { codes = s .history .codes; seed = s .history .seed; accepted = eq-eqb _ 0 (sym (s .history .makes .answer-is) ∙ s .made) }
 
   -- the player that the restart's block gets, and the one that it leaves
-  at-is : stateOf (s .at) ≡ after from (s .history .calls)
+  at-is : stateOf (s .at) ≡ after (newPlayer player) (s .history .calls)
+  unfolding player
   at-is = history-state (s .history)
 
-  past-is : stateOf (s .block .player) ≡ step (after from (s .history .calls)) call
+  past-is : stateOf (s .block .player) ≡ step (after (newPlayer player) (s .history .calls)) call
   past-is = s .plays .state-is ∙ ap (λ (z : State). step z call) at-is
 
-  pub restart : RestartIn from calls
+  pub restart : RestartFrom (newPlayer player)
   restart =
       record {
         before = s .history .calls;
@@ -47,29 +41,28 @@ module _ (s : Session) where
         x = s .x;
         y = s .y;
         rest = s .rest;
-        here = refl;
         accepted = ap (λ (z : State). answer z call) (sym at-is) ∙ sym (s .plays .answer-is) ∙ s .accepted;
         carried = s .carried;
       }
 
   -- a block's own, and what follows
-  frames-from : (side : Side) → writtenFrom s side ≡ Rule.framesFrom from calls restart side
+  frames-from : (side : Side) → writtenFrom s side ≡ Rule.framesFrom restart side
   unfolding restart writtenFrom Rule.framesFrom
   frames-from side =
       let own = read-is side (s .at) (s .transport) (s .frames) (s .restart) (s .x) (s .y) (s .block) (s .x′) (s .y′) (s .plays) in
       let later = written-heard side (s .from-block) in
       rw (own, later, at-is, past-is) refl
 
-  at-restart : atRestart s ≡ Rule.atRestart from calls restart
+  at-restart : atRestart s ≡ Rule.atRestart restart
   unfolding restart throughout Rule.throughout Rule.wordAt
   at-restart = let later = transports-window (s .from-block) in rw (later, at-is, past-is) refl
 
 pub players-rule : PlayersRule
-players-rule s₁ s₂ rate h side n u v =
+players-rule s₁ s₂ fields h side n u v =
     rw (frames-from s₁ side, frames-from s₂ side)
-    (restart-rule (s₁ .history .codes) (s₂ .history .codes) (s₁ .history .seed) (s₂ .history .seed) (accepts-making s₁) (accepts-making s₂) (calls s₁) (calls s₂) (restart s₁) (restart s₂) rate
-    (subst (λ (z : AtRestart). Hypotheses z (Rule.atRestart (from s₂) (calls s₂) (restart s₂)) rate) (at-restart s₁)
-    (subst (λ (z : AtRestart). Hypotheses (atRestart s₁) z rate) (at-restart s₂) h))
+    (restart-rule (player s₁) (player s₂) (restart s₁) (restart s₂) fields
+    (subst (λ (z : AtRestart). Hypotheses z (Rule.atRestart (restart s₂)) fields) (at-restart s₁)
+    (subst (λ (z : AtRestart). Hypotheses (atRestart s₁) z fields) (at-restart s₂) h))
     side n
     (subst (λ (z : List Float). n < length z) (frames-from s₁ side) u)
     (subst (λ (z : List Float). n < length z) (frames-from s₂ side) v))

@@ -12,7 +12,7 @@ use Rattle.player.specs.declared.Played.{Played}
 use Rattle.player.specs.Player.{stateOf, Valid}
 use Rattle.player.specs.Promises.{Plays}
 use Rattle.restart.specs.Heard.{Side}
-use Rattle.restart.specs.Rule.{wordAfter, AtRestart, Rate, Hypotheses}
+use Rattle.restart.specs.Rule.{wordAfter, AtRestart, TransportFields, Hypotheses}
 use Rattle.reached.specs.Traces.{Trace, ValidAll, History}
 use Rattle.players_rule.specs.Written.{bufferOf, written, transports}
 
@@ -65,5 +65,5 @@ module _ (s : Session) where
 -- buffers, under the hypotheses of `RestartRule`
 abbrev pub PlayersRule : Type 0
 PlayersRule =
-    (s₁ s₂ : Session) (rate : Rate) → Hypotheses (atRestart s₁) (atRestart s₂) rate
+    (s₁ s₂ : Session) (fields : TransportFields) → Hypotheses (atRestart s₁) (atRestart s₂) fields
     → (side : Side) (n : ℕ) → n < length (writtenFrom s₁ side) → n < length (writtenFrom s₂ side) → getD (writtenFrom s₁ side) n nan ≡ getD (writtenFrom s₂ side) n nan

@@ -2,7 +2,7 @@
 use mathlib.Core.Path.{_≡_, sym, _∙_, subst}
 use mathlib.Core.Bool.{Bool, true, false, cond}
 use mathlib.Core.List.{List}
-use Prim.Native.Nat.{ℕ, _*_, _≤_}
+use Prim.Native.Nat.{ℕ, _*_}
 use native.Mathlib.Nat.{mul-pos, mul-one, zero-mul, zero-lt-suc}
 use lib.Dec.{T, ltb, ltb→lt}
 use lib.ListN.{getD}
@@ -11,11 +11,12 @@ use lib.Ieee.{Float, nan, inf, fin, unlike, up, down, round, eq, binary32, mul, 
 use lib.IntN.{ℤ}
 use lib.Ieee.Fits.{down-pos}
 use lib.Ieee.Scale.{finite, round-same}
-use Rattle.floatlaws.specs.Numbers.{Between, f32-0, f32-1}
+use Rattle.floatlaws.specs.Numbers.{f32-0}
 use Rattle.floatlaws.proofs.NoNan.{Number, mul-number, add-number}
 use Rattle.points.specs.declared.PointMod.{PointMod}
 use Rattle.points.specs.declared.PointMod.the-variants.{None, Bus}
 use Rattle.points.specs.Modulation.{FiniteMod, FiniteBuses, busValue, offsetOf, movedOf, placedOf}
+use Rattle.points.specs.Laws.{OffsetAbove, PlacedIn}
 use Rattle.points.proofs.Floats.{unit-clamped}
 
 -- ---- a finite modulation moves a finite coordinate to a number
@@ -36,7 +37,7 @@ offset-number (Bus bus depth) buses h k = mul-number binary32 (busValue buses bu
 pub moved-number : (x : Float) (m : PointMod) (buses : List Float) → T (finite x) → FiniteMod m → FiniteBuses buses → Number (movedOf x m buses)
 moved-number x m buses f h k = add-number binary32 x (offsetOf m buses) f (offset-number m buses h k)
 
-pub placed-between : (x : Float) (m : PointMod) (buses : List Float) → Number (movedOf x m buses) → Between f32-0 (placedOf x m buses) f32-1
+pub placed-between : PlacedIn
 unfolding placedOf
 placed-between x m buses number = unit-clamped (movedOf x m buses) number
 
@@ -58,6 +59,6 @@ zero-scaled nan h = absurd h
 zero-scaled (inf s) h = absurd h
 zero-scaled (fin s n d) h = subst (λ (z : Float). T (eq z f32-0)) (sym (scaled-is s n d)) (rounded-zero (unlike false s))
 
-pub offset-above : (bus : ℕ) (depth : Float) (buses : List Float) → 16 ≤ bus → T (finite depth) → T (eq (offsetOf (Bus bus depth) buses) f32-0)
+pub offset-above : OffsetAbove
 unfolding offsetOf busValue
 offset-above bus depth buses h k = rw (le-ltb bus 16 h) (zero-scaled depth k)

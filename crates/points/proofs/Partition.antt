@@ -11,6 +11,7 @@ use lib.Ieee.{Float, nan, le, lt}
 use Rattle.floatlaws.proofs.NoNan.{Number}
 use Rattle.floatlaws.proofs.Order.{le-left, le-trans-at, lt-not-le, not-le→lt, lt-of-lt-of-le-at}
 use Rattle.points.specs.Arrays.{Ascends, partitionPoint}
+use Rattle.points.specs.Laws.{PartitionRule}
 use Rattle.listlaws.proofs.LastWhere.{last-found, last-passed, last-none, last-le, last-at, last-after, last-unique}
 
 abbrev before : List Float → Float → ℕ → Bool
@@ -49,7 +50,7 @@ module _ (xs : List Float) (n : ℕ) (x : Float) where
 
   module _ (up : Ascends xs n) where
     -- up to the place all are
-    pub partition-before : (k : ℕ) → k < partitionPoint xs n x → T (le (getD xs k nan) x)
+    partition-before : (k : ℕ) → k < partitionPoint xs n x → T (le (getD xs k nan) x)
     partition-before k h = go (partitionPoint xs n x) refl h
       where
         go : (i : ℕ) → partitionPoint xs n x ≡ i → k < i → T (le (getD xs k nan) x)
@@ -75,3 +76,6 @@ module _ (xs : List Float) (n : ℕ) (x : Float) where
           not-T (lt x (getD xs 0 nan))
           (λ (h : T (lt x (getD xs 0 nan))).
           lt-not-le x (getD xs 0 nan) h (le-trans-at (getD xs 0 nan) (getD xs k nan) x (up 0 k (omega arith) (omega (arith, partition-le))) (partition-at k e)))
+
+pub partition-rule : PartitionRule
+partition-rule xs n x up = record { within = partition-le xs n x; before = partition-before xs n x up; after = partition-after xs n x }

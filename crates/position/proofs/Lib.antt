@@ -1,2 +1,3 @@
 mod Parity
 mod Cyclic
+pub mod Worked

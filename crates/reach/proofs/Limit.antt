@@ -17,6 +17,7 @@ use lib.Ieee.Scale.{round-val, round-under, grid, finite}
 use Rattle.floatlaws.proofs.Order.{below-says, le-trans-at, not-lt→le}
 use Rattle.floatlaws.specs.Numbers.{f64-1}
 use Rattle.clock.specs.Pace.{limitOf}
+use Rattle.reach.specs.Laws.{LimitRule}
 use Rattle.floatlaws.proofs.NoNan.{finite-number}
 use Rattle.floatlaws.proofs.Unit.{zero-float, half-float, one-float, closest-half}
 use Rattle.floatlaws.specs.Size.{Sized, Size}
@@ -104,7 +105,7 @@ unfolding ofBits
 one-size = record { sized = lit≤ tt }
 
 -- the scale, and the increment by it
-pub limit-in : (inc : Float) → T (finite inc) → T (le zero-float inc) → Size (limitOf inc) 1 × Size (mul binary64 inc (limitOf inc)) 1
+pub limit-in : LimitRule
 unfolding limitOf ofBits
 limit-in inc p h = go (lt half-float inc) (λ (k : T (lt half-float inc)). above-half inc p k) (λ (k : T (not (lt half-float inc))). small-size inc h (not-lt→le half-float inc (unfold isNan in tt) (finite-number inc p) k))
   where

@@ -1,19 +1,19 @@
 -- What `prepare` makes of a transport in range: a block of `BlockIn`, as the laws of proofs/Reach.antt need it. Assumes nothing.
 use mathlib.Core.Path.{refl, sym, _∙_, subst}
 use mathlib.Core.Logic.{inl, inr}
-use mathlib.Core.Bool.{Bool, true, false, not, _&&_, _||_, cond, true≢false}
+use mathlib.Core.Bool.{Bool, true, false, not, _&&_, cond, true≢false}
 use Prim.Native.Nat.{ℕ, zero, suc, _-_, _*_, _^_, _≤_, _<_}
 use native.Mathlib.Nat.{le-trans, le-of-eq, le-of-lt, le-of-suc-le-suc, eq-or-lt-of-le, not-suc-le-zero, zero-lt-suc, mul-one, one-mul, mul-le-mul-right}
 use native.Mathlib.Omega.{arith}
 use lib.Dec.{T, ltb, leb, leb→le, ltb→lt, lit≤, lit<}
 use lib.Pow.{pow-pos, pow-mono}
 use lib.IntN.{pos}
-use lib.Ieee.{Float, nan, inf, fin, binary64, up, down, round, mul, div, lt, eq, le, isNan, ofBits, ofInt}
+use lib.Ieee.{Float, nan, inf, fin, binary64, up, down, round, mul, div, le, isNan, ofBits, ofInt}
 use lib.Ieee.Back.{round-whole}
 use lib.Ieee.Exact.{HasValue}
 use lib.Ieee.Fits.{and-l, and-r, down-pos}
 use lib.Ieee.Scale.{finite}
-use Rattle.floatlaws.specs.Extrema.{maxOf, clampOf, signed}
+use Rattle.floatlaws.specs.Extrema.{maxOf, clampOf}
 use Rattle.floatlaws.specs.Whole.{wholeOf, wholeSize, toHalf}
 use Rattle.floatlaws.proofs.Order.{le-trans-at}
 use Rattle.floatlaws.proofs.Extrema.{max-bounds, clamp-bounds, max-either}

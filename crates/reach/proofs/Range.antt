@@ -19,14 +19,14 @@ use Rattle.floatlaws.proofs.Whole.{floor-rest}
 use Rattle.floatlaws.proofs.Euclid.{euclid-within}
 use Rattle.floatlaws.proofs.Mono.{add-mono, sub-mono, narrowed-mono}
 use Rattle.floatlaws.specs.Numbers.{f64-0, f64-eps}
-use Rattle.settings.specs.declared.choices.Mode.{Mode}
 use Rattle.settings.specs.declared.choices.Mode.the-variants.{Free, Restart, OneShot}
 use Rattle.settings.specs.declared.choices.Direction.{Direction}
 use Rattle.settings.specs.declared.choices.Direction.the-variants.{Forward, Reverse, PingPong}
-use Rattle.position.specs.Position.{oddCycle, cyclicOf, intoCycle, floorOf, forwardLoop, forwardOnce, reverseLoop, reverseOnce, backOnce, bounced, pingPongLoop, pingPongOnce, positionOf}
+use Rattle.position.specs.Position.{oddCycle, cyclicOf, intoCycle, floorOf, forwardLoop, forwardOnce, reverseLoop, reverseOnce, backOnce, bounced, pingPongLoop, pingPongOnce}
 use Rattle.position.specs.declared.place.LoopPoint.{LoopPoint}
 use Rattle.position.specs.declared.place.LoopPoint.the-variants.{None, At}
 use Rattle.reach.specs.Bounds.{LoopIn}
+use Rattle.reach.specs.Laws.{PositionIn, NarrowedIn}
 use Rattle.floatlaws.proofs.NoNan.{finite-number}
 use Rattle.floatlaws.proofs.Unit.{zero-float, one-float, two-float, unit-finite, complement, from-one, less-self, less-one, twice, twice-value, twice-less}
 
@@ -196,7 +196,7 @@ module _ (c : Float) (C : Count c) (l : LoopPoint) (i : LoopIn l) where
 
 -- ---- the law
 
-pub position-in : (m : Mode) (d : Direction) (c : Float) (l : LoopPoint) → T (fits binary64 c) → T (finite c) → LoopIn l → InUnit (positionOf m d c l)
+pub position-in : PositionIn
 position-in Free d c l t p i = cyclic-in d c t p
 position-in Restart d c l t p i = cyclic-in d c t p
 position-in OneShot Forward c l t p i = forward-in (maxOf c f64-0) (count-of c t p) l i
@@ -205,6 +205,6 @@ position-in OneShot PingPong c l t p i = ping-pong-in (maxOf c f64-0) (count-of 
 
 -- ---- to the nearest f32
 
-pub narrowed-in : (x : Float) → InUnit x → InUnit (narrowed binary32 x)
+pub narrowed-in : NarrowedIn
 unfolding narrowed round
 narrowed-in x h = (narrowed-mono binary32 zero-float x (h .0), narrowed-mono binary32 x one-float (h .1))

@@ -16,12 +16,10 @@ use Rattle.floatlaws.proofs.Extrema.{clamp-high}
 use Rattle.floatlaws.specs.Numbers.{f64-0, f64-least, f64-longest}
 use Rattle.settings.specs.Divisions.{beatsOf, spanDivision}
 use Rattle.settings.specs.Times.{clampedSpan}
-use Rattle.settings.specs.declared.division.Division.{Division}
-use Rattle.settings.specs.declared.times.Span.the-variants as Span
 use Rattle.clock.specs.Spans.{lengthOf, spanLength, samplesOf}
-use Rattle.clock.specs.declared.block.Block.{Block}
-use Rattle.floatlaws.specs.Size.{Least, Size, AtLeast}
+use Rattle.floatlaws.specs.Size.{Least}
 use Rattle.floatlaws.proofs.Size.{div-is}
+use Rattle.reach.specs.Laws.{StoppedSpan}
 use Rattle.reach.proofs.Prepared.{beats-in}
 
 abbrev large : Float
@@ -93,7 +91,7 @@ cap-is : toUnsigned 64 f64-longest ≡ 10 ^ 15
 unfolding toUnsigned ofBits
 cap-is = refl
 
-pub stopped-span : (d : Division) (b : Block) → b .«beats_per_sample» ≡ f64-0 → Size (b .«beats_per_bar») 64 → AtLeast (b .«beats_per_bar») 1 4 → samplesOf (Span.Synced d) b ≡ 10 ^ 15
+pub stopped-span : StoppedSpan
 unfolding samplesOf spanLength lengthOf clampedSpan
 stopped-span d b e S A =
     let x = beatsOf (spanDivision d) (b .«beats_per_bar») in

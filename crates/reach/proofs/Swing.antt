@@ -18,13 +18,13 @@ use Rattle.clock.specs.Pace.{firstOf, swingOf}
 use Rattle.position.specs.Position.{floorOf, intoPair, pairsOf, swungOf, swungBy}
 use Rattle.position.specs.declared.swing.Swing.{Swing}
 use Rattle.position.specs.declared.swing.Swing.the-variants.{Off, First}
-use Rattle.clock.specs.declared.pace.Cycles.{Cycles}
 use Rattle.clock.specs.declared.pace.Cycles.the-variants.{PerBeat, PerSecond}
 use Rattle.floatlaws.proofs.Unit.{zero-float, half-float, one-float, two-float}
 use Rattle.floatlaws.specs.Size.{Sized, Size, AtLeast}
 use Rattle.floatlaws.proofs.Size.{size-finite, size-more, add-size, sub-size, mul-size, div-size, size-of-le, round-sized}
 use Rattle.floatlaws.proofs.Sign.{NonNeg, nonneg-le, mul-nonneg, at-least-of, clamp-nonneg, clamp-size}
-use Rattle.reach.specs.Bounds.{ShareIn, SwingIn}
+use Rattle.reach.specs.Bounds.{ShareIn}
+use Rattle.reach.specs.Laws.{SwingRule, SwungIn}
 
 abbrev quarter-float : Float
 quarter-float = fin false 1 (negsuc 1)
@@ -76,7 +76,7 @@ first-in amount n =
     quarter-nonneg : NonNeg quarter-float
     quarter-nonneg = record { not-below = tt }
 
-pub swing-in : (c : Cycles) (set : Bool) (amount : Float) → T (not (isNan amount)) → SwingIn (swingOf c set amount)
+pub swing-in : SwingRule
 unfolding swingOf
 swing-in (PerBeat p) true amount n = first-in amount n
 swing-in (PerSecond h) true amount n = tt
@@ -150,7 +150,7 @@ swung-size c first C i =
     either true h k = h
     either false h k = k
 
-pub swung-in : (w : Swing) (c : Float) → Size c (2 ^ 46) → SwingIn w → Size (swungBy w c) (2 ^ 50)
+pub swung-in : SwungIn
 swung-in Off c C i = size-more (lit≤ tt) C
 swung-in (First first) c C i = swung-size c first C i
 

@@ -9,7 +9,7 @@
 -- song lock or not. In it the anchor goes from `AnchorIn (f + k)` at sample k to `AnchorIn (f + k + 1)` at the next (`next-anchor-in`, in Free mode too, where the anchor
 -- counts on though nothing reads it), and keeps `AnchorIn (f + k)` where it is begun (`begun-in`) or restarted (`started-in`). Nothing is asked of the settings and
 -- the transport of earlier blocks, so both may change at will, within what the questions accept: `SettingsIn` and `TransportIn` are what is left of those, once
--- more for each block. Where f stays within 2 ^ 40, every count, swung or not, is finite and below 2 ^ 51 in size (proofs/Frame.antt). Assumes nothing.
+-- more for each block. Where f stays within 2 ^ 40, every count, swung or not, is finite and at most 2 ^ 50 in size (`CountIn` of Laws.antt). Assumes nothing.
 use Prim.Native.Nat.{ℕ, _+_, _-_, _^_, _≤_, _<_}
 use mathlib.Core.Bool.{false, not}
 use lib.Dec.{T}

@@ -40,7 +40,7 @@ fn show_bytes(bytes: &[u8], n: usize) {
 
 // Plays a run into `out` and writes what it gives.
 fn play(run: &[u8], out: &mut [u8]) {
-    let n = oracle::lfo_run(run, out);
+    let n = runner::lfo_run(run, out);
     show_bytes(out, n as usize);
 }
 

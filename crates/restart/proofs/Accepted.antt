@@ -26,14 +26,14 @@ use Rattle.questions.proofs.Facts.{transport-in, block-accepted}
 use Rattle.curves.specs.Given.{isYes}
 use Rattle.calls.specs.State.{State}
 use Rattle.calls.specs.Calls.{block, questions, answer}
-use Rattle.restart.specs.Rule.{rateOf}
+use Rattle.restart.specs.Rule.{transportFields}
 use Rattle.restart.proofs.Constants.{paceOf}
 
 -- equal codes stand for one pace
 known-scale : (s r : Scale) → ScaleCode.Known s ≡ ScaleCode.Known r → s ≡ r
 known-scale s r e = cc
 
-pub same-pace : (c d : TransportCodes) (t u : Transport) → TransportRead c t → TransportRead d u → rateOf c ≡ rateOf d → paceOf t ≡ paceOf u
+pub same-pace : (c d : TransportCodes) (t u : Transport) → TransportRead c t → TransportRead d u → transportFields c ≡ transportFields d → paceOf t ≡ paceOf u
 same-pace c d t u r q e = go rate tempo bar swing scale
   where
     rate : t .«sample_rate» ≡ u .«sample_rate»

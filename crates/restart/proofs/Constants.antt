@@ -1,4 +1,4 @@
--- What a restart and the frames after it read of a block: with song lock not in force it comes from the settings and the rate alone. Assumes nothing.
+-- What a restart and the frames after it read of a block: with song lock not in force it comes from the settings and five fields of the transport alone. Assumes nothing.
 use Prim.Native.Nat.{ℕ}
 use mathlib.Core.Path.{_≡_, refl, sym, ap, _∙_}
 use mathlib.Core.Bool.{false, _&&_}
@@ -42,7 +42,7 @@ constantsOf b =
       «chaos_steps» = b .«chaos_steps»;
     }
 
--- a transport without its place in the song, and whether it plays
+-- these fields: a transport without its place in the song, and whether it plays
 pub record Pace : Type 0 where
   pub rate : Float
   pub tempo : Float

@@ -3,7 +3,7 @@ use Prim.Native.Nat.{ℕ, _<_}
 use mathlib.Core.Path.{_≡_, refl}
 use mathlib.Core.Logic.{inl}
 use mathlib.Core.Bool.{true, false}
-use mathlib.Core.List.{List, [], _∷_, _++_}
+use mathlib.Core.List.{List, [], _∷_}
 use native.Mathlib.Omega.{arith}
 use lib.ListN.{length, getD, replicate}
 use lib.Ieee.{Float, nan, inf, ofBits, eq, lt, le}
@@ -35,9 +35,9 @@ use Rattle.questions.specs.Tests.{everyKept, shapeKnown, shapeFinite, loopbackI
 use Rattle.questions.specs.Questions.{firstNo, settingsQuestions, shapeQuestions, busQuestions, phaseQuestions, blockQuestions}
 use Rattle.calls.specs.State.{newState, withSettings, withShape, withBus, movedBuses}
 use Rattle.calls.specs.Blocks.{pendingOf, playedState, values}
-use Rattle.calls.specs.Calls.{Call, settings, shape, path, bus, phase, block, questions, answer, makes, made, accepted, step, after, played, buffer}
+use Rattle.calls.specs.Calls.{Call, settings, shape, bus, phase, block, questions, answer, makes, made, accepted, step, after, played, buffer}
 use Rattle.restart.specs.Heard.{Side, x-side, y-side, read, heard, window}
-use Rattle.restart.specs.Rule.{RestartIn, framesFrom, throughout, atRestart, rateOf, none, more, Hypotheses}
+use Rattle.restart.specs.Rule.{RestartFrom, framesFrom, throughout, atRestart, transportFields, none, more, Hypotheses, JustMade}
 use Rattle.restart.proofs.RestartRule.{restart-rule}
 
 -- ---- what the calls are handed
@@ -93,7 +93,7 @@ other =
 abbrev percent : ScaleCodes
 percent = record { code = 0; percent = f32-1 }
 
--- one rate at two places of the song, stopped
+-- the same five fields at two places of the song, stopped
 abbrev pub here : TransportCodes
 here =
     record {
@@ -120,7 +120,7 @@ there =
       scale = percent;
     }
 
--- another rate, which plays
+-- other ones, and it plays
 abbrev song : TransportCodes
 song =
     record {
@@ -181,9 +181,6 @@ before₁ = bus 3 f32-½ ∷ block here 3 never room room ∷ []
 abbrev rest₁ : List Call
 rest₁ = block there 2 never room room ∷ []
 
-abbrev calls₁ : List Call
-calls₁ = before₁ ++ (block here 4 (at 1) room room ∷ rest₁)
-
 -- other settings and another shape at first, a bus twice, a bus that is refused, a block with song lock in force and a restart, and a block that is refused
 abbrev before₂ : List Call
 before₂ =
@@ -195,10 +192,6 @@ rest₂ =
     block endless 1 (at 0) room room ∷ bus 99 f32-1 ∷ phase song ∷ block here 0 never room room ∷ block there 1 never room room ∷ block here 4 (at 3) room room
     ∷ settings other ∷ []
 
--- the restart lies beyond the end of a block of no frames
-abbrev calls₂ : List Call
-calls₂ = before₂ ++ (block there 0 (at 7) room room ∷ rest₂)
-
 pub makes-drawn : makes drawn ≡ true
 unfolding firstNo settingsQuestions settingsKnown settingsFinite ofBits
 makes-drawn = refl
@@ -207,20 +200,27 @@ makes-other : makes other ≡ true
 unfolding firstNo settingsQuestions settingsKnown settingsFinite ofBits
 makes-other = refl
 
-pub restart₁ : RestartIn (made drawn 1) calls₁
+abbrev player₁ : JustMade
+player₁ = record { codes = drawn; seed = 1; accepted = makes-drawn }
+
+abbrev player₂ : JustMade
+player₂ = record { codes = other; seed = 2; accepted = makes-other }
+
+pub restart₁ : RestartFrom (made drawn 1)
 unfolding after step answer questions firstNo settingsQuestions blockQuestions busQuestions settingsKnown settingsFinite transportKnown transportFinite transportIn settingsAt withSwitches withSpans rateAt spanAt smoothAt transportAt scaleAt accepted playedState withBus made newState lib.Ieee.neg le lt eq ofBits
 restart₁ =
-    record { before = before₁; transport = here; frames = 4; restart = at 1; x = room; y = room; rest = rest₁; here = refl; accepted = refl; carried = refl }
+    record { before = before₁; transport = here; frames = 4; restart = at 1; x = room; y = room; rest = rest₁; accepted = refl; carried = refl }
 
-pub restart₂ : RestartIn (made other 2) calls₂
+-- the restart lies beyond the end of a block of no frames
+pub restart₂ : RestartFrom (made other 2)
 unfolding after step answer questions firstNo settingsQuestions blockQuestions busQuestions settingsKnown settingsFinite transportKnown transportFinite transportIn settingsAt withSwitches withSpans rateAt spanAt smoothAt transportAt scaleAt accepted playedState withBus made newState lib.Ieee.neg le lt eq ofBits shapeQuestions shapeKnown shapeFinite loopbackIn shapeOnGrid everyKept phaseQuestions every pointKnown pointFinite isMultiple clampOf withSettings withShape pendingOf
 restart₂ =
-    record { before = before₂; transport = there; frames = 0; restart = at 7; x = room; y = room; rest = rest₂; here = refl; accepted = refl; carried = refl }
+    record { before = before₂; transport = there; frames = 0; restart = at 7; x = room; y = room; rest = rest₂; accepted = refl; carried = refl }
 
 not-held : Drawn ≡ SampleAndHold → ⊥
 not-held e = let z : _≡_ {A = ℕ} 0 1 = cc in omega arith
 
-met : Hypotheses (atRestart (made drawn 1) calls₁ restart₁) (atRestart (made other 2) calls₂ restart₂) (rateOf here)
+met : Hypotheses (atRestart restart₁) (atRestart restart₂) (transportFields here)
 unfolding restart₁ restart₂ throughout window after step answer questions firstNo settingsQuestions blockQuestions busQuestions settingsKnown settingsFinite transportKnown transportFinite transportIn settingsAt withSwitches withSpans rateAt spanAt smoothAt transportAt scaleAt accepted playedState withBus made newState lib.Ieee.neg le lt eq ofBits shapeQuestions shapeKnown shapeFinite loopbackIn shapeOnGrid everyKept phaseQuestions every pointKnown pointFinite isMultiple withSettings withShape pendingOf clampedSettings clampedRate clampedSpan movedBuses givenShape givenPoints pointOf modOf loopbackOf within shapeOf sortedArray sortedPoints insertPoint slotOf clampedPoint tabulate lastWhere inserted defaultShape clampOf
 met =
     record {
@@ -239,18 +239,18 @@ met =
     }
 
 -- the first plays five frames from its restart, and the second four before its next restart
-five : (side : Side) → length (framesFrom (made drawn 1) calls₁ restart₁ side) ≡ 5
+five : (side : Side) → length (framesFrom restart₁ side) ≡ 5
 unfolding restart₁ framesFrom heard read buffer played values partsOuts outs pendingOf after step answer questions firstNo settingsQuestions blockQuestions busQuestions settingsKnown settingsFinite transportKnown transportFinite transportIn settingsAt withSwitches withSpans rateAt spanAt smoothAt transportAt scaleAt accepted playedState withBus made newState lib.Ieee.neg le lt eq ofBits
 five x-side = refl
 five y-side = refl
 
-four : (side : Side) → length (framesFrom (made other 2) calls₂ restart₂ side) ≡ 4
+four : (side : Side) → length (framesFrom restart₂ side) ≡ 4
 unfolding restart₂ framesFrom heard read buffer played values partsOuts outs after step answer questions firstNo settingsQuestions blockQuestions busQuestions settingsKnown settingsFinite transportKnown transportFinite transportIn settingsAt withSwitches withSpans rateAt spanAt smoothAt transportAt scaleAt accepted playedState withBus made newState lib.Ieee.neg le lt eq ofBits shapeQuestions shapeKnown shapeFinite loopbackIn shapeOnGrid everyKept phaseQuestions every pointKnown pointFinite isMultiple clampOf withSettings withShape pendingOf
 four x-side = refl
 four y-side = refl
 
 -- so the first four frames are the same
 pub same-four : (side : Side) (n : ℕ) → n < 4
-    → getD (framesFrom (made drawn 1) calls₁ restart₁ side) n nan ≡ getD (framesFrom (made other 2) calls₂ restart₂ side) n nan
+    → getD (framesFrom restart₁ side) n nan ≡ getD (framesFrom restart₂ side) n nan
 same-four side n h =
-    restart-rule drawn other 1 2 makes-drawn makes-other calls₁ calls₂ restart₁ restart₂ (rateOf here) met side n (omega (arith, five side)) (omega (arith, four side))
+    restart-rule player₁ player₂ restart₁ restart₂ (transportFields here) met side n (omega (arith, five side)) (omega (arith, four side))

@@ -4,7 +4,7 @@ use Prim.Native.Nat.{ℕ, _<_}
 use mathlib.Core.Path.{_≡_, refl}
 use mathlib.Core.Logic.{inr}
 use mathlib.Core.Bool.{true, false}
-use mathlib.Core.List.{List, [], _∷_, _++_}
+use mathlib.Core.List.{List, [], _∷_}
 use native.Mathlib.Omega.{arith}
 use lib.Dec.{eqb}
 use lib.ListN.{length, getD}
@@ -29,7 +29,7 @@ use Rattle.calls.specs.State.{State, newState, withSettings}
 use Rattle.calls.specs.Blocks.{pendingOf, playedState, values}
 use Rattle.calls.specs.Calls.{Call, settings, block, questions, answer, makes, made, accepted, step, after, played, buffer}
 use Rattle.restart.specs.Heard.{Side, x-side, y-side, read, heard, window}
-use Rattle.restart.specs.Rule.{RestartIn, wordAfter, stateAt, framesFrom, throughout, atRestart, wordAt, rateOf, none, more, Hypotheses}
+use Rattle.restart.specs.Rule.{RestartFrom, wordAfter, stateAt, framesFrom, throughout, atRestart, wordAt, transportFields, none, more, Hypotheses, JustMade}
 use Rattle.restart.proofs.RestartRule.{restart-rule}
 use Rattle.restart.proofs.Example.{hertz, off, unsmoothed, drawn, here, there, never, at, room, makes-drawn}
 
@@ -55,31 +55,25 @@ held =
 abbrev before₁ : List Call
 before₁ = block here 3 never room room ∷ settings held ∷ block here 1 never room room ∷ []
 
-abbrev calls₁ : List Call
-calls₁ = before₁ ++ (block here 2 (at 0) room room ∷ [])
+pub restart₁ : RestartFrom (made drawn 7)
+unfolding after step answer questions firstNo settingsQuestions blockQuestions settingsKnown settingsFinite transportKnown transportFinite transportIn settingsAt withSwitches withSpans rateAt spanAt smoothAt transportAt scaleAt accepted playedState made newState lib.Ieee.neg le lt eq ofBits withSettings pendingOf
+restart₁ = record { before = before₁; transport = here; frames = 2; restart = at 0; x = room; y = room; rest = []; accepted = refl; carried = refl }
 
 -- the draw in the restart's block, before its frame
-abbrev calls₂ : List Call
-calls₂ = block there 2 (at 1) room room ∷ block there 1 never room room ∷ []
-
-pub restart₁ : RestartIn (made drawn 7) calls₁
-unfolding after step answer questions firstNo settingsQuestions blockQuestions settingsKnown settingsFinite transportKnown transportFinite transportIn settingsAt withSwitches withSpans rateAt spanAt smoothAt transportAt scaleAt accepted playedState made newState lib.Ieee.neg le lt eq ofBits withSettings pendingOf
-restart₁ = record { before = before₁; transport = here; frames = 2; restart = at 0; x = room; y = room; rest = []; here = refl; accepted = refl; carried = refl }
-
-pub restart₂ : RestartIn (made held 7) calls₂
+pub restart₂ : RestartFrom (made held 7)
 unfolding after step answer questions firstNo settingsQuestions blockQuestions settingsKnown settingsFinite transportKnown transportFinite transportIn settingsAt withSwitches withSpans rateAt spanAt smoothAt transportAt scaleAt accepted playedState made newState lib.Ieee.neg le lt eq ofBits withSettings pendingOf
 restart₂ =
-    record { before = []; transport = there; frames = 2; restart = at 1; x = room; y = room; rest = block there 1 never room room ∷ []; here = refl; accepted = refl; carried = refl }
+    record { before = []; transport = there; frames = 2; restart = at 1; x = room; y = room; rest = block there 1 never room room ∷ []; accepted = refl; carried = refl }
 
-words : wordAt (made drawn 7) calls₁ restart₁ ≡ wordAt (made held 7) calls₂ restart₂
+words : wordAt restart₁ ≡ wordAt restart₂
 unfolding restart₁ restart₂ wordAt begun begunVoice begunSource voiceAfter frameOf sourceAfter sampledOf sameCycle cycleOf partsVoice newVoice newSource clampedSettings after step answer questions firstNo settingsQuestions blockQuestions settingsKnown settingsFinite transportKnown transportFinite transportIn settingsAt withSwitches withSpans rateAt spanAt smoothAt transportAt scaleAt accepted playedState made newState lib.Ieee.neg le lt eq ofBits withSettings pendingOf
 words = refl
 
 -- of the player that a restart's block gets, the word at the block's start
-abbrev wordAtStart : (p : State) (calls : List Call) → RestartIn p calls → ℕ
-wordAtStart p calls r = wordAfter (stateAt p calls r) (r .transport) (r .frames) 0
+abbrev wordAtStart : {p : State} → RestartFrom p → ℕ
+wordAtStart r = wordAfter (stateAt r) (r .transport) (r .frames) 0
 
-pub words-at-starts : eqb (wordAtStart (made drawn 7) calls₁ restart₁) (wordAtStart (made held 7) calls₂ restart₂) ≡ false
+pub words-at-starts : eqb (wordAtStart restart₁) (wordAtStart restart₂) ≡ false
 unfolding restart₁ restart₂ begun begunVoice begunSource voiceAfter frameOf sourceAfter sampledOf sameCycle cycleOf partsVoice newVoice newSource clampedSettings random.drawn stepped xorShl xorShr mixed finalised nextState after step answer questions firstNo settingsQuestions blockQuestions settingsKnown settingsFinite transportKnown transportFinite transportIn settingsAt withSwitches withSpans rateAt spanAt smoothAt transportAt scaleAt accepted playedState made newState lib.Ieee.neg le lt eq ofBits withSettings pendingOf
 words-at-starts = refl
 
@@ -87,7 +81,13 @@ makes-held : makes held ≡ true
 unfolding firstNo settingsQuestions settingsKnown settingsFinite ofBits
 makes-held = refl
 
-met : Hypotheses (atRestart (made drawn 7) calls₁ restart₁) (atRestart (made held 7) calls₂ restart₂) (rateOf here)
+abbrev player₁ : JustMade
+player₁ = record { codes = drawn; seed = 7; accepted = makes-drawn }
+
+abbrev player₂ : JustMade
+player₂ = record { codes = held; seed = 7; accepted = makes-held }
+
+met : Hypotheses (atRestart restart₁) (atRestart restart₂) (transportFields here)
 unfolding restart₁ restart₂ throughout window clampedSettings clampedRate clampedSpan after step answer questions firstNo settingsQuestions blockQuestions settingsKnown settingsFinite transportKnown transportFinite transportIn settingsAt withSwitches withSpans rateAt spanAt smoothAt transportAt scaleAt accepted playedState made newState lib.Ieee.neg le lt eq ofBits withSettings pendingOf
 met =
     record {
@@ -104,17 +104,17 @@ met =
     }
 
 -- both play two frames
-two₁ : (side : Side) → length (framesFrom (made drawn 7) calls₁ restart₁ side) ≡ 2
+two₁ : (side : Side) → length (framesFrom restart₁ side) ≡ 2
 unfolding restart₁ framesFrom heard read buffer played values partsOuts outs after step answer questions firstNo settingsQuestions blockQuestions settingsKnown settingsFinite transportKnown transportFinite transportIn settingsAt withSwitches withSpans rateAt spanAt smoothAt transportAt scaleAt accepted playedState made newState lib.Ieee.neg le lt eq ofBits withSettings pendingOf
 two₁ x-side = refl
 two₁ y-side = refl
 
-two₂ : (side : Side) → length (framesFrom (made held 7) calls₂ restart₂ side) ≡ 2
+two₂ : (side : Side) → length (framesFrom restart₂ side) ≡ 2
 unfolding restart₂ framesFrom heard read buffer played values partsOuts outs after step answer questions firstNo settingsQuestions blockQuestions settingsKnown settingsFinite transportKnown transportFinite transportIn settingsAt withSwitches withSpans rateAt spanAt smoothAt transportAt scaleAt accepted playedState made newState lib.Ieee.neg le lt eq ofBits withSettings pendingOf
 two₂ x-side = refl
 two₂ y-side = refl
 
 pub same-two : (side : Side) (n : ℕ) → n < 2
-    → getD (framesFrom (made drawn 7) calls₁ restart₁ side) n nan ≡ getD (framesFrom (made held 7) calls₂ restart₂ side) n nan
+    → getD (framesFrom restart₁ side) n nan ≡ getD (framesFrom restart₂ side) n nan
 same-two side n h =
-    restart-rule drawn held 7 7 makes-drawn makes-held calls₁ calls₂ restart₁ restart₂ (rateOf here) met side n (omega (arith, two₁ side)) (omega (arith, two₂ side))
+    restart-rule player₁ player₂ restart₁ restart₂ (transportFields here) met side n (omega (arith, two₁ side)) (omega (arith, two₂ side))

@@ -20,7 +20,7 @@ use Rattle.voice.specs.Frame.{Frame, frameOf}
 use Rattle.voice.specs.Voice.{begunVoice, restartedAnchor, triggeredVoice}
 use Rattle.bank.specs.declared.parts.Pending.the-variants.{None, At}
 use Rattle.bank.specs.Render.{voiceAfter, outs}
-use Rattle.bank.specs.Parts.{begun, restarted, partsVoice, partsOuts}
+use Rattle.bank.specs.Parts.{begun, reaching, restarted, partsVoice, partsOuts}
 use Rattle.bank.proofs.Frames.{length-outs}
 use Rattle.restart.specs.Rule.{Restarts}
 use Rattle.restart.proofs.Constants.{constantsOf}
@@ -29,22 +29,10 @@ use Rattle.restart.proofs.Stream.{later, plays, after-later, outs-plays
 
 -- ---- a voice just before and just after a restart
 
-module _ (s : Settings) (q : Curve) (b : Block) where
-  abbrev after : ℕ → ℕ → Voice → Voice
-  after = voiceAfter (s .kind) (s .mode) (s .direction) q b
-
-  -- begun, and played up to the restart after k frames
-  abbrev pub reaches : ℕ → Voice → Voice
-  reaches k v = after 0 k (begunVoice s b 0 v)
-
-  after-made : (from n : ℕ) (v : Voice) → after from n v .«made_for» ≡ v .«made_for»
-  unfolding voiceAfter frameOf
-  after-made from zero v = refl
-  after-made from (suc n) v = after-made from n v
-
-  pub reaches-made : (k : ℕ) (v : Voice) → reaches k v .«made_for» ≡ MadeFor.For (s .kind)
-  unfolding begunVoice
-  reaches-made k v = after-made 0 k (begunVoice s b 0 v)
+pub reaching-made : (s : Settings) (q : Curve) (b : Block) (frames : ℕ) (v : Voice) (k : ℕ) → reaching s q b frames v k .«made_for» ≡ MadeFor.For (s .kind)
+unfolding voiceAfter frameOf begun begunVoice
+reaching-made s q b frames v zero = refl
+reaching-made s q b frames v (suc k) = reaching-made s q b frames v k
 
 started : (mode : Mode) (a : Anchor) (b : Block) → Restarts mode → b .«song_lock» ≡ SongLock.None → restartedAnchor mode a b ≡ Samples (b .phase) 0 (b .inc)
 unfolding restartedAnchor startedOf
@@ -63,12 +51,13 @@ module _ (s : Settings) (b : Block) (m : Restarts (s .mode)) (l : b .«song_lock
 
   -- and so the stretch after it is begun as it is
   module _ (number : eq (b .inc) (b .inc) ≡ true) (q : Curve) (frames : ℕ) (v : Voice) (k : ℕ) where
-    pub restarted-is : restarted s q b frames v k ≡ triggeredVoice s b (reaches s q b k v)
-    unfolding restarted begun
-    restarted-is = begun-same s b k (triggeredVoice s b (reaches s q b k v)) (b .inc) m l number (triggered-runs (reaches s q b k v) (reaches-made s q b k v))
+    pub restarted-is : restarted s q b frames v k ≡ triggeredVoice s b (reaching s q b frames v k)
+    unfolding restarted
+    restarted-is =
+        begun-same s b k (triggeredVoice s b (reaching s q b frames v k)) (b .inc) m l number (triggered-runs (reaching s q b frames v k) (reaching-made s q b frames v k))
 
     pub restarted-runs : Running (s .kind) (b .inc) (restarted s q b frames v k)
-    restarted-runs = rw restarted-is (triggered-runs (reaches s q b k v) (reaches-made s q b k v))
+    restarted-runs = rw restarted-is (triggered-runs (reaching s q b frames v k) (reaching-made s q b frames v k))
 
 -- ---- the frames of a block
 

@@ -1,4 +1,4 @@
--- Two restarts in blocks of one rate leave voices that are alike, whatever the voices were. Assumes nothing.
+-- Two restarts in blocks of the same constants leave voices that are alike, whatever the voices were. Assumes nothing.
 use Prim.Native.Nat.{_+_, _-_, _^_, zero-le}
 use mathlib.Core.Path.{_≡_, refl, sym, ap, ap₂, _∙_}
 use mathlib.Core.Logic.{_⊎_, inl, inr}

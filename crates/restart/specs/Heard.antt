@@ -10,7 +10,7 @@ use Rattle.bank.specs.declared.parts.Pending.the-variants.{None, At}
 use Rattle.codes.specs.declared.RestartCodes.{RestartCodes}
 use Rattle.calls.specs.State.{State}
 use Rattle.calls.specs.Blocks.{pendingOf}
-use Rattle.calls.specs.Calls.{Call, settings, shape, path, bus, phase, block, accepts, step, buffer}
+use Rattle.calls.specs.Calls.{Call, isEdit, byBlock, accepts, step, buffer}
 
 -- ---- the frames of one block
 
@@ -35,28 +35,18 @@ abbrev pub blocksUpTo : Pending → TransportCodes → List TransportCodes → L
 blocksUpTo None own later = own ∷ later
 blocksUpTo (At k) own later = own ∷ []
 
--- ---- of a list of calls. A refused call and a phase read add nothing and end nothing; an accepted edit, "an accepted call that sets settings, shape, path or a bus", is the end.
+-- ---- of a list of calls: a refused call adds nothing and ends nothing, and so does an accepted one that is neither a block nor an edit; an accepted edit is the end
 
 -- the frames up to the next restart or edit, "through all accepted blocks"
 unfoldable pub heard : Side → State → List Call → List Float
 heard side p [] = []
-heard side p (settings c ∷ cs) = cond (accepts p (settings c)) [] (heard side (step p (settings c)) cs)
-heard side p (shape c ∷ cs) = cond (accepts p (shape c)) [] (heard side (step p (shape c)) cs)
-heard side p (path c ∷ cs) = cond (accepts p (path c)) [] (heard side (step p (path c)) cs)
-heard side p (bus k z ∷ cs) = cond (accepts p (bus k z)) [] (heard side (step p (bus k z)) cs)
-heard side p (phase c ∷ cs) = heard side (step p (phase c)) cs
-heard side p (block c n restart x y ∷ cs) =
-    cond (accepts p (block c n restart x y))
-    (framesUpTo (pendingOf restart) n (read side p c n restart x y) (heard side (step p (block c n restart x y)) cs))
-    (heard side (step p (block c n restart x y)) cs)
+heard side p (c ∷ cs) =
+    let later = heard side (step p c) cs in
+    cond (accepts p c) (byBlock (cond (isEdit c) [] later) c λ t n restart x y. framesUpTo (pendingOf restart) n (read side p t n restart x y) later) later
 
 -- the transports of the accepted blocks up to the next restart or edit
 unfoldable pub window : State → List Call → List TransportCodes
 window p [] = []
-window p (settings c ∷ cs) = cond (accepts p (settings c)) [] (window (step p (settings c)) cs)
-window p (shape c ∷ cs) = cond (accepts p (shape c)) [] (window (step p (shape c)) cs)
-window p (path c ∷ cs) = cond (accepts p (path c)) [] (window (step p (path c)) cs)
-window p (bus k z ∷ cs) = cond (accepts p (bus k z)) [] (window (step p (bus k z)) cs)
-window p (phase c ∷ cs) = window (step p (phase c)) cs
-window p (block c n restart x y ∷ cs) =
-    cond (accepts p (block c n restart x y)) (blocksUpTo (pendingOf restart) c (window (step p (block c n restart x y)) cs)) (window (step p (block c n restart x y)) cs)
+window p (c ∷ cs) =
+    let later = window (step p c) cs in
+    cond (accepts p c) (byBlock (cond (isEdit c) [] later) c λ t n restart x y. blocksUpTo (pendingOf restart) t later) later

@@ -14,13 +14,10 @@ use Rattle.settings.specs.declared.choices.Mode.the-variants.{Restart, OneShot}
 use Rattle.codes.specs.declared.ScaleCodes.{ScaleCodes}
 use Rattle.settings.specs.declared.record.Settings.{Settings}
 use Rattle.codes.specs.declared.SettingsCodes.{SettingsCodes}
-use Rattle.settings.specs.declared.record.Transport.{Transport}
 use Rattle.codes.specs.declared.TransportCodes.{TransportCodes}
 use Rattle.settings.specs.Codes.{transportAt}
 use Rattle.clock.specs.Ready.{preparedOf}
-use Rattle.voice.specs.declared.Voice.{Voice}
-use Rattle.bank.specs.Render.{voiceAfter}
-use Rattle.bank.specs.Parts.{begun}
+use Rattle.bank.specs.Parts.{reaching}
 use Rattle.slot.specs.Slot.{slotCurve}
 use Rattle.curves.specs.Given.{isYes}
 use Rattle.codes.specs.declared.RestartCodes.{RestartCodes}
@@ -30,8 +27,8 @@ use Rattle.restart.specs.Heard.{Side, read, heard, window}
 
 -- ---- a restart in a list of calls
 
--- "A restart is one that an accepted block carries": the list is the calls before the block, the block, and the rest.
-pub record RestartIn (from : State) (calls : List Call) : Type 0 where
+-- "A restart is one that an accepted block carries": in a list of calls on the player `from`, the calls before the block, the block, and the calls behind it
+pub record RestartFrom (from : State) : Type 0 where
   pub before : List Call
   pub transport : TransportCodes
   pub frames : ℕ
@@ -39,21 +36,15 @@ pub record RestartIn (from : State) (calls : List Call) : Type 0 where
   pub x : List Float
   pub y : List Float
   pub rest : List Call
-  pub here : calls ≡ before ++ (block transport frames restart x y ∷ rest)
   pub accepted : answer (after from before) (block transport frames restart x y) ≡ 0
   pub carried : restart .code ≡ 1
 
--- the voice after the first k frames of a block of `frames` frames
-abbrev pub voiceAt : State → Transport → ℕ → ℕ → Voice
-voiceAt p t frames k =
-    let s = p .lfo .settings in
-    let q = slotCurve (s .kind) (p .lfo) in
-    let b = preparedOf s (p .lfo .clock) t frames .block in
-    voiceAfter (s .kind) (s .mode) (s .direction) q b 0 k (begun s q b frames (p .voice))
-
--- its random word, "the generator's 64 bits, made from the seed and moved on by every draw"
+-- the random word after the first k frames of a block, "the generator's 64 bits, made from the seed and moved on by every draw"
 abbrev pub wordAfter : State → TransportCodes → ℕ → ℕ → ℕ
-wordAfter p c frames k = byTransport 0 (transportAt c) λ t. voiceAt p t frames k .source .rng
+wordAfter p c frames k =
+    byTransport 0 (transportAt c) λ t.
+    let s = p .lfo .settings in
+    reaching s (slotCurve (s .kind) (p .lfo)) (preparedOf s (p .lfo .clock) t frames .block) frames (p .voice) k .source .rng
 
 -- What is asked about, of one list: the player that the restart's block gets, the transports that blocks get throughout, and the random word at the restart.
 pub record AtRestart : Type 0 where
@@ -61,13 +52,20 @@ pub record AtRestart : Type 0 where
   pub transports : List TransportCodes
   pub word : ℕ
 
-module _ (from : State) (calls : List Call) (r : RestartIn from calls) where
+module _ {from : State} (r : RestartFrom from) where
+  abbrev pub restartBlock : Call
+  restartBlock = block (r .transport) (r .frames) (r .restart) (r .x) (r .y)
+
+  -- the list of calls; every list with a restart in it is such a one (`every-restart` of the proof)
+  abbrev pub callsOf : List Call
+  callsOf = r .before ++ (restartBlock ∷ r .rest)
+
   -- the player that the block gets, and the one that it leaves
   abbrev pub stateAt : State
   stateAt = after from (r .before)
 
   abbrev pub statePast : State
-  statePast = step stateAt (block (r .transport) (r .frames) (r .restart) (r .x) (r .y))
+  statePast = step stateAt restartBlock
 
   -- "at its frame or, where that lies beyond the end, at the end"
   abbrev pub frameAt : ℕ
@@ -114,49 +112,55 @@ pub record Equal (p q : State) : Type 0 where
   pub buses : p .lfo .buses ≡ q .lfo .buses
 
 -- "sample rate, tempo, bar, swing and scale"; "Nothing else of the transport need be equal"
-pub record Rate : Type 0 where
+pub record TransportFields : Type 0 where
   pub «sample_rate» : Float
   pub tempo : Float
   pub «beats_per_bar» : Float
   pub swing : Float
   pub scale : ScaleCodes
 
-abbrev pub rateOf : TransportCodes → Rate
-rateOf c = record { «sample_rate» = c .«sample_rate»; tempo = c .tempo; «beats_per_bar» = c .«beats_per_bar»; swing = c .swing; scale = c .scale }
+abbrev pub transportFields : TransportCodes → TransportFields
+transportFields c = record { «sample_rate» = c .«sample_rate»; tempo = c .tempo; «beats_per_bar» = c .«beats_per_bar»; swing = c .swing; scale = c .scale }
 
 -- "Song lock is in force when it is set and the transport plays."
-abbrev pub inForce : Settings → TransportCodes → Bool
-inForce s c = s .«song_lock» && isYes (c .playing)
+abbrev pub songLockInForce : Settings → TransportCodes → Bool
+songLockInForce s c = s .«song_lock» && isYes (c .playing)
 
 -- "song lock is not in force and both get one and the same sample rate, tempo, bar, swing and scale"
-pub record Gets (s : Settings) (rate : Rate) (c : TransportCodes) : Type 0 where
-  pub same : rateOf c ≡ rate
-  pub unlocked : inForce s c ≡ false
+pub record Gets (s : Settings) (fields : TransportFields) (c : TransportCodes) : Type 0 where
+  pub same : transportFields c ≡ fields
+  pub unlocked : songLockInForce s c ≡ false
 
 -- every one of a list
 pub data Every (Q : TransportCodes → Type 0) : List TransportCodes → Type 0 where
   none : Every Q []
   more : {c : TransportCodes} {l : List TransportCodes} → Q c → Every Q l → Every Q (c ∷ l)
 
-pub record Hypotheses (a b : AtRestart) (rate : Rate) : Type 0 where
+pub record Hypotheses (a b : AtRestart) (fields : TransportFields) : Type 0 where
   -- "Take in each list any restart in mode Restart or One-shot"
   pub mode : Restarts (a .state .lfo .settings .mode)
   -- "at which the two players have equal settings, curve, supplied numbers and stored buses"
   pub equal : Equal (a .state) (b .state)
   -- "from the restart's block on song lock is not in force and both get one and the same sample rate, tempo, bar, swing and scale, unchanged throughout"
-  pub gets₁ : Every (Gets (a .state .lfo .settings) rate) (a .transports)
-  pub gets₂ : Every (Gets (b .state .lfo .settings) rate) (b .transports)
+  pub gets₁ : Every (Gets (a .state .lfo .settings) fields) (a .transports)
+  pub gets₂ : Every (Gets (b .state .lfo .settings) fields) (b .transports)
   -- "Sample-and-Hold also needs equal random words at the restart."
   pub words : a .state .lfo .settings .kind ≡ SampleAndHold → a .word ≡ b .word
 
 -- ---- the rule
 
--- "Take any two lists of calls, each from a player just made": "whatever came before and whatever block lengths each gets, for every n the n-th frame from the restart has the
--- same x and y in both, if both play it before the next restart or edit."
+-- "a player just made", "with any seed": its making was accepted
+pub record JustMade : Type 0 where
+  pub codes : SettingsCodes
+  pub seed : ℕ
+  pub accepted : makes codes ≡ true
+
+abbrev pub newPlayer : JustMade → State
+newPlayer p = made (p .codes) (p .seed)
+
+-- "Take any two lists of calls, each from a player just made", "in each list any restart": "whatever came before and whatever block lengths each gets, for every n the n-th frame
+-- from the restart has the same x and y in both, if both play it before the next restart or edit."
 abbrev pub RestartRule : Type 0
 RestartRule =
-    (codes₁ codes₂ : SettingsCodes) (seed₁ seed₂ : ℕ) → makes codes₁ ≡ true → makes codes₂ ≡ true
-    → (calls₁ calls₂ : List Call) (r₁ : RestartIn (made codes₁ seed₁) calls₁) (r₂ : RestartIn (made codes₂ seed₂) calls₂) (rate : Rate)
-    → Hypotheses (atRestart (made codes₁ seed₁) calls₁ r₁) (atRestart (made codes₂ seed₂) calls₂ r₂) rate
-    → (side : Side) (n : ℕ) → n < length (framesFrom (made codes₁ seed₁) calls₁ r₁ side) → n < length (framesFrom (made codes₂ seed₂) calls₂ r₂ side)
-    → getD (framesFrom (made codes₁ seed₁) calls₁ r₁ side) n nan ≡ getD (framesFrom (made codes₂ seed₂) calls₂ r₂ side) n nan
+    (p₁ p₂ : JustMade) (r₁ : RestartFrom (newPlayer p₁)) (r₂ : RestartFrom (newPlayer p₂)) (fields : TransportFields) → Hypotheses (atRestart r₁) (atRestart r₂) fields
+    → (side : Side) (n : ℕ) → n < length (framesFrom r₁ side) → n < length (framesFrom r₂ side) → getD (framesFrom r₁ side) n nan ≡ getD (framesFrom r₂ side) n nan

@@ -10,12 +10,13 @@ use borrow.Author.Tests.{ltb-true}
 use lib.Dec.{ltb}
 use lib.ListN.{length, drop, getD, take, length-drop}
 use Rattle.floatlaws.specs.Numbers.{f32-0}
-use Rattle.number.specs.declared.Reading.{Reading}
 use Rattle.number.specs.declared.Reading.the-variants.{Number, CutShort, Bad}
-use Rattle.number.specs.Read as Read
 use Rattle.number.specs.Read.{leading, numberOf, shortest, judged, readFrom, readAt}
-use Rattle.runs.specs.Parser.{Parsed, read, malformed, Parser, after, _then_, done}
-use Rattle.runs.specs.Fields.{parsed, number, below, f32, f64, numberIf, byteIf, f32If}
+use Rattle.number.proofs.Exact.{below-small}
+use Rattle.fields.specs.Parser.{read, Parser, _then_, done, when}
+use Rattle.fields.specs.Fields.{number, below, f32, f64}
+use Rattle.fields.proofs.Chains.{was-read, same-place}
+use Rattle.fields.proofs.Trips.{parsed-read}
 use Rattle.runs.specs.Records.{rate, span, smooth, settings, scale, transport, restart}
 use Rattle.runs.specs.Curves.{kept, modulation, point, loopback, shape, pathPoint, path}
 
@@ -25,31 +26,22 @@ pub record Ahead {A : Type 0} (p : Parser A) : Type 0 where
 pub record Steady {A : Type 0} (p : Parser A) : Type 0 where
   pub steady : (run : List ℕ) (at : ℕ) (a : A) (next : ℕ) → p run at ≡ read a next → (at ≤ next) × (at ≤ length run → next ≤ length run)
 
-never : {A B : Type 0} {a : A} {next : ℕ} → malformed ≡ read a next → B
-never e = let z : _≡_ {A = ℕ} 0 1 = cc e in absurd (omega arith)
-
 pub steady-ahead : {A : Type 0} {p : Parser A} → Ahead p → Steady p
 steady-ahead h = record { steady = λ run at a next e. let w = h .ahead run at a next e in (omega arith, λ _. w .1) }
 
 pub steady-done : {A : Type 0} (a : A) → Steady (done a)
-steady-done a = record { steady = λ run at b next e. let same : at ≡ next = cc e in (omega arith, λ h. omega arith) }
+steady-done a = record { steady = λ run at b next e. let same : at ≡ next = same-place e in (omega arith, λ h. omega arith) }
 
 -- ---- one after the other
 
 module _ {A B : Type 0} (p : Parser A) (f : A → Parser B) where
-  parts : {C : Type 0} (run : List ℕ) (b : B) (end : ℕ) (q : Parsed A) → after q (λ a. f a run) ≡ read b end
-      → ((a : A) (next : ℕ) → q ≡ read a next → f a run next ≡ read b end → C) → C
-  unfolding after
-  parts run b end (read a next) e k = k a next refl e
-  parts run b end malformed e k = never e
-
   pub ahead-then : Ahead p → ((a : A) → Steady (f a)) → Ahead (p then f)
   ahead-then h s =
       record {
         ahead = λ run at b end e.
-            parts run b end (p run at) e λ a next e₁ e₂.
-            let w = h .ahead run at a next e₁ in
-            let v = s a .steady run next b end e₂ in
+            let (a, next, first, rest) = was-read (p run at) _ e in
+            let w = h .ahead run at a next first in
+            let v = s a .steady run next b end rest in
             (omega arith, v .1 (w .1));
       }
 
@@ -57,9 +49,9 @@ module _ {A B : Type 0} (p : Parser A) (f : A → Parser B) where
   steady-then h s =
       record {
         steady = λ run at b end e.
-            parts run b end (p run at) e λ a next e₁ e₂.
-            let w = h .steady run at a next e₁ in
-            let v = s a .steady run next b end e₂ in
+            let (a, next, first, rest) = was-read (p run at) _ e in
+            let w = h .steady run at a next first in
+            let v = s a .steady run next b end rest in
             (omega arith, λ inside. v .1 (w .1 inside));
       }
 
@@ -96,25 +88,11 @@ module _ (run : List ℕ) (at v next : ℕ) where
 
 pub ahead-number : Ahead number
 unfolding number
-ahead-number = record { ahead = λ run at v next e. number-ahead run at v next (number-read (readAt run at) e) }
-  where
-    number-read : {v next : ℕ} (r : Reading) → parsed r ≡ read v next → r ≡ Number v next
-    number-read (Number v next) e = cc e
-    number-read CutShort e = never e
-    number-read Bad e = never e
+ahead-number = record { ahead = λ run at v next e. number-ahead run at v next (parsed-read (readAt run at) e) }
 
 pub ahead-below : (limit : ℕ) → Ahead (below limit)
-unfolding below Read.below
-ahead-below limit = record { ahead = λ run at v next e. number-ahead run at v next (number-read (readAt run at) e) }
-  where
-    by-test : {v next w end : ℕ} (t : Bool) → parsed (cond t (Number v next) Bad) ≡ read w end → Number v next ≡ Number w end
-    by-test true e = cc e
-    by-test false e = never e
-
-    number-read : {v next : ℕ} (r : Reading) → parsed (Read.below limit r) ≡ read v next → r ≡ Number v next
-    number-read (Number v next) e = by-test (ltb v limit) e
-    number-read CutShort e = never e
-    number-read Bad e = never e
+unfolding below
+ahead-below limit = record { ahead = λ run at v next e. number-ahead run at v next (below-small limit (readAt run at) v next (parsed-read _ e) .1) }
 
 pub ahead-f32 : Ahead f32
 unfolding f32
@@ -125,22 +103,16 @@ unfolding f64
 ahead-f64 = ahead-then _ _ ahead-number λ _. steady-done _
 
 -- a field that belongs to one case
-module _ {A : Type 0} {p : Parser A} (h : Ahead p) (blank : A) where
-  by-case : (chosen : Bool) → Steady (cond chosen p (done blank))
-  by-case true = steady-ahead h
-  by-case false = steady-done _
+pub steady-when : {A : Type 0} {p : Parser A} → Ahead p → (blank : A) (chosen : Bool) → Steady (when chosen blank p)
+unfolding when
+steady-when h blank true = steady-ahead h
+steady-when h blank false = steady-done _
 
-pub steady-number-if : (chosen : Bool) → Steady (numberIf chosen)
-unfolding numberIf
-steady-number-if = by-case ahead-number 0
+steady-number-if : (chosen : Bool) → Steady (when chosen 0 number)
+steady-number-if = steady-when ahead-number 0
 
-pub steady-byte-if : (chosen : Bool) → Steady (byteIf chosen)
-unfolding byteIf
-steady-byte-if = by-case (ahead-below _) 0
-
-pub steady-f32-if : (chosen : Bool) → Steady (f32If chosen)
-unfolding f32If
-steady-f32-if = by-case ahead-f32 f32-0
+steady-f32-if : (chosen : Bool) → Steady (when chosen f32-0 f32)
+steady-f32-if = steady-when ahead-f32 f32-0
 
 -- ---- what they make
 
@@ -225,7 +197,7 @@ pub ahead-modulation : Ahead modulation
 unfolding modulation
 ahead-modulation =
     ahead-then _ _ ahead-number λ _.
-    steady-then _ _ (steady-byte-if _) λ _.
+    steady-then _ _ (steady-when (ahead-below _) 0 _) λ _.
     steady-then _ _ (steady-f32-if _) λ _.
     steady-done _
 

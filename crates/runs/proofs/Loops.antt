@@ -6,10 +6,11 @@ use mathlib.Core.List.{List}
 use native.Mathlib.Numerals.{add-one}
 use lib.ListN.{length, set}
 use lib.Seq.{set-out}
-use Rattle.runs.specs.declared.fields.Place.{Place}
-use Rattle.runs.specs.Parser.{Parser, Reads}
+use Rattle.fields.specs.declared.reader.Place.{Place}
+use Rattle.fields.specs.Parser.{Parser}
+use Rattle.fields.specs.Places.{Reads}
 use Rattle.runs.specs.Curves.{kept}
-use Rattle.runs.proofs.Laws.{chain, last}
+use Rattle.fields.proofs.Places.{chain, last}
 
 module _ {A : Type 0} (blank : A) (p : Parser A) (run : List ℕ) (from : Place) (l : List A) (next : Place) (i : ℕ) (r : Reads (kept blank p i run) from l next)
     (a : A) (end : Place) (s : Reads (p run) next a end) where

@@ -4,14 +4,14 @@ use mathlib.Core.List.{List}
 use lib.Dec.{eqb}
 use lib.ListN.{set, replicate}
 use Rattle.floatlaws.specs.Numbers.{f32-0}
-use Rattle.curves.specs.declared.ModCodes.{ModCodes}
-use Rattle.curves.specs.declared.PointCodes.{PointCodes}
-use Rattle.curves.specs.declared.PathPointCodes.{PathPointCodes}
-use Rattle.curves.specs.declared.LoopbackCodes.{LoopbackCodes}
-use Rattle.runs.specs.declared.shapes.ShapeCodes.{ShapeCodes}
-use Rattle.runs.specs.declared.paths.PathCodes.{PathCodes}
-use Rattle.runs.specs.Parser.{Parser, _then_, done}
-use Rattle.runs.specs.Fields.{number, upTo, f32, numberIf, byteIf, f32If}
+use Rattle.codes.specs.declared.ModCodes.{ModCodes}
+use Rattle.codes.specs.declared.PointCodes.{PointCodes}
+use Rattle.codes.specs.declared.PathPointCodes.{PathPointCodes}
+use Rattle.codes.specs.declared.LoopbackCodes.{LoopbackCodes}
+use Rattle.codes.specs.declared.ShapeCodes.{ShapeCodes}
+use Rattle.codes.specs.declared.PathCodes.{PathCodes}
+use Rattle.fields.specs.Parser.{Parser, _then_, done, when}
+use Rattle.fields.specs.Fields.{number, upTo, byte, f32}
 
 -- "a count above 4,096 of points" is malformed
 abbrev pub count : Parser ℕ
@@ -26,8 +26,8 @@ kept blank p (suc n) = kept blank p n then λ l. p then λ a. done (set l n a)
 unfoldable pub modulation : Parser ModCodes
 modulation =
     number then λ code.
-    byteIf (eqb code 1) then λ bus.
-    f32If (eqb code 1) then λ depth.
+    when (eqb code 1) 0 byte then λ bus.
+    when (eqb code 1) f32-0 f32 then λ depth.
     done (record { code = code; bus = bus; depth = depth })
 
 -- what the array has past the last point
@@ -55,7 +55,7 @@ points = kept blankPoint point
 
 -- loopback = 0 | 1 index
 unfoldable pub loopback : Parser LoopbackCodes
-loopback = number then λ code. numberIf (eqb code 1) then λ index. done (record { code = code; index = index })
+loopback = number then λ code. when (eqb code 1) 0 number then λ index. done (record { code = code; index = index })
 
 -- shape = count point.. loopback
 unfoldable pub shape : Parser ShapeCodes

@@ -1,5 +1,3 @@
-pub mod Parser
-pub mod Fields
 pub mod Records
 pub mod Curves
 pub mod Vectors

@@ -8,8 +8,8 @@ use Rattle.floatlaws.specs.Numbers.{f32-0, f32-1}
 use Rattle.number.specs.Encoded.{groups, encoded}
 use Rattle.number.specs.Read as Read
 use Rattle.number.specs.Read.{leading, numberOf, shortest, judged, readFrom, readAt}
-use Rattle.runs.specs.Parser.{read, malformed, after}
-use Rattle.runs.specs.Fields.{number, below, f32, numberIf, byteIf, f32If}
+use Rattle.fields.specs.Parser.{read, fault, after, when}
+use Rattle.fields.specs.Fields.{number, below, f32}
 use Rattle.runs.specs.Records.{rate, span, smooth, settings}
 use Rattle.runs.specs.Curves.{kept, modulation, blankMod, point, blankPoint, loopback, shape, pathPoint, blankPathPoint, path}
 
@@ -40,12 +40,12 @@ settings-read : settings (bytes (4 ∷ 1 ∷ 2 ∷ 1 ∷ one ∷ 1 ∷ 1 ∷ 0 �
       «grid_x» = 300;
     })
     29
-unfolding bytes one encoded groups readAt readFrom leading judged shortest numberOf after number below Read.below f32 numberIf f32If rate span smooth settings ofBits
+unfolding bytes one encoded groups readAt readFrom leading judged shortest numberOf after number below Read.below f32 when rate span smooth settings ofBits
 settings-read = refl
 
 -- an unknown code has no fields
 unknown-rate : rate (bytes (2 ∷ 5 ∷ [])) 0 ≡ read (record { code = 2; division = 0; feel = 0; hz = f32-0; x10 = 0 }) 1
-unfolding bytes encoded groups readAt readFrom leading judged shortest numberOf after number numberIf f32If rate
+unfolding bytes encoded groups readAt readFrom leading judged shortest numberOf after number when rate
 unknown-rate = refl
 
 -- one point at 1, 1 with the curve 0 and a step, its x moved by bus 3 at a depth of 1, and a loopback at it; nothing more is read
@@ -57,7 +57,7 @@ shape-read : shape (bytes (1 ∷ one ∷ one ∷ 0 ∷ 1 ∷ 1 ∷ 3 ∷ one ∷
       loopback = record { code = 1; index = 0 };
     })
     23
-unfolding bytes one encoded groups readAt readFrom leading judged shortest numberOf after number below Read.below f32 numberIf byteIf f32If modulation point kept loopback shape ofBits
+unfolding bytes one encoded groups readAt readFrom leading judged shortest numberOf after number below Read.below f32 when modulation point kept loopback shape ofBits
 shape-read = refl
 
 -- a closed path of one point at 1, 0 with the bend 1, its y moved by bus 3 at a depth of 1; nothing more is read
@@ -69,21 +69,34 @@ path-read : path (bytes (1 ∷ 1 ∷ one ∷ 0 ∷ one ∷ 0 ∷ 1 ∷ 3 ∷ one
       closed = 1;
     })
     21
-unfolding bytes one encoded groups readAt readFrom leading judged shortest numberOf after number below Read.below f32 byteIf f32If modulation pathPoint kept path ofBits
+unfolding bytes one encoded groups readAt readFrom leading judged shortest numberOf after number below Read.below f32 when modulation pathPoint kept path ofBits
 path-read = refl
 
--- a bus of 256, an f32 of 33 bits, and 4,097 points are too large
-large-bus : modulation (bytes (1 ∷ 256 ∷ 0 ∷ [])) 0 ≡ malformed
-unfolding bytes encoded groups readAt readFrom leading judged shortest numberOf after number below Read.below byteIf modulation
+-- a bus of 256, an f32 of 33 bits, and 4,097 points are too large: bad, whatever follows
+large-bus : modulation (bytes (1 ∷ 256 ∷ [])) 0 ≡ fault 13
+unfolding bytes encoded groups readAt readFrom leading judged shortest numberOf after number below Read.below when modulation
 large-bus = refl
 
-large-float : f32 (bytes (2 ^ 32 ∷ [])) 0 ≡ malformed
+large-float : f32 (bytes (2 ^ 32 ∷ [])) 0 ≡ fault 13
 unfolding bytes encoded groups readAt readFrom leading judged shortest numberOf after below Read.below f32
 large-float = refl
 
-many-points : path (bytes (4097 ∷ [])) 0 ≡ malformed
+many-points : path (bytes (4097 ∷ [])) 0 ≡ fault 13
 unfolding bytes encoded groups readAt readFrom leading judged shortest numberOf after below Read.below path
 many-points = refl
+
+-- bytes that end in a number, before a field, and before a path's second point are cut short
+cut-number : modulation (1 ∷ 0x80 ∷ []) 0 ≡ fault 12
+unfolding readAt readFrom leading judged shortest numberOf after number below Read.below when modulation
+cut-number = refl
+
+cut-modulation : modulation (bytes (1 ∷ 255 ∷ [])) 0 ≡ fault 12
+unfolding bytes encoded groups readAt readFrom leading judged shortest numberOf after number below Read.below f32 when modulation
+cut-modulation = refl
+
+cut-path : path (bytes (2 ∷ 0 ∷ one ∷ 0 ∷ 0 ∷ 0 ∷ 0 ∷ [])) 0 ≡ fault 12
+unfolding bytes one encoded groups readAt readFrom leading judged shortest numberOf after number below Read.below f32 when modulation pathPoint kept path ofBits
+cut-path = refl
 
 -- what stands past the 64th is read and not kept
 past-the-array : kept 0 number 66 (replicate 64 5 ++ 6 ∷ 7 ∷ 8 ∷ []) 0 ≡ read (replicate 64 5) 66

@@ -1,15 +1,16 @@
 // Paths.
 ghost use mathlib.Core.Path.{_≡_};
 ghost use lib.ListN.{replicate};
-ghost use Rattle.runs.specs.Parser.{Reads};
+ghost use Rattle.fields.specs.Places.{Reads};
 ghost use Rattle.runs.specs.Curves.{pathPoint, pathPoints, blankPathPoint, path};
-use super::fields::Place;
-use super::fields::read_below;
-use super::fields::read_f32;
-use super::fields::read_number;
 use super::shapes::read_mod;
-use curves::ModCodes;
-use curves::PathPointCodes;
+use codes::ModCodes;
+use codes::PathCodes;
+use codes::PathPointCodes;
+use fields::Place;
+use fields::read_below;
+use fields::read_f32;
+use fields::read_number;
 use points::MAX_POINTS;
 
 pub struct PathPointRead {
@@ -20,13 +21,6 @@ pub struct PathPointRead {
 pub struct PathPointsRead {
     pub value: [PathPointCodes; MAX_POINTS],
     pub next: Place,
-}
-
-// A path of `count` points, of which the array has the first 64.
-pub struct PathCodes {
-    pub points: [PathPointCodes; MAX_POINTS],
-    pub count: usize,
-    pub closed: u64,
 }
 
 pub struct PathRead {

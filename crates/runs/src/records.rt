@@ -1,20 +1,20 @@
 // Settings, transports and restarts.
-ghost use Rattle.runs.specs.Parser.{Reads};
+ghost use Rattle.fields.specs.Places.{Reads};
 ghost use Rattle.runs.specs.Records.{rate, span, smooth, settings, scale, transport, restart};
-use super::fields::Place;
-use super::fields::read_f32;
-use super::fields::read_f32_if;
-use super::fields::read_f64;
-use super::fields::read_number;
-use super::fields::read_number_if;
-use super::fields::read_short;
-use questions::RestartCodes;
-use settings::RateCodes;
-use settings::ScaleCodes;
-use settings::SettingsCodes;
-use settings::SmoothCodes;
-use settings::SpanCodes;
-use settings::TransportCodes;
+use codes::RateCodes;
+use codes::RestartCodes;
+use codes::ScaleCodes;
+use codes::SettingsCodes;
+use codes::SmoothCodes;
+use codes::SpanCodes;
+use codes::TransportCodes;
+use fields::Place;
+use fields::read_f32;
+use fields::read_f32_if;
+use fields::read_f64;
+use fields::read_number;
+use fields::read_number_if;
+use fields::read_short;
 
 pub struct RateRead {
     pub value: RateCodes,

@@ -1,18 +1,19 @@
 // Shapes.
 ghost use mathlib.Core.Path.{_≡_};
 ghost use lib.ListN.{replicate};
-ghost use Rattle.runs.specs.Parser.{Reads};
+ghost use Rattle.fields.specs.Places.{Reads};
 ghost use Rattle.runs.specs.Curves.{modulation, point, points, blankPoint, loopback, shape};
-use super::fields::Place;
-use super::fields::read_below;
-use super::fields::read_byte_if;
-use super::fields::read_f32;
-use super::fields::read_f32_if;
-use super::fields::read_number;
-use super::fields::read_number_if;
-use curves::LoopbackCodes;
-use curves::ModCodes;
-use curves::PointCodes;
+use codes::LoopbackCodes;
+use codes::ModCodes;
+use codes::PointCodes;
+use codes::ShapeCodes;
+use fields::Place;
+use fields::read_below;
+use fields::read_byte_if;
+use fields::read_f32;
+use fields::read_f32_if;
+use fields::read_number;
+use fields::read_number_if;
 use points::MAX_POINTS;
 
 pub struct ModRead {
@@ -33,13 +34,6 @@ pub struct PointsRead {
 pub struct LoopbackRead {
     pub value: LoopbackCodes,
     pub next: Place,
-}
-
-// A shape of `count` points, of which the array has the first 64.
-pub struct ShapeCodes {
-    pub points: [PointCodes; MAX_POINTS],
-    pub count: usize,
-    pub loopback: LoopbackCodes,
 }
 
 pub struct ShapeRead {

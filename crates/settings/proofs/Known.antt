@@ -3,13 +3,13 @@ use Prim.Native.Nat.{ℕ, zero, suc}
 use mathlib.Core.Path.{_≡_, refl, sym, _∙_}
 use mathlib.Core.Bool.{Bool, true, false, cond, _&&_, and-assoc, and-true, false≢true}
 use mathlib.Core.List.{List, [], _∷_}
-use lib.Dec.{eqb, ltb, leb·zero, leb·suc-zero, leb·suc-suc, eqb·suc-zero, eqb·suc-suc}
+use lib.Dec.{ltb, leb·zero, leb·suc-zero, leb·suc-suc, eqb·suc-zero, eqb·suc-suc}
 use lib.ListN.{getD, length}
 use lib.Ieee.{Float}
 use Rattle.settings.specs.Choices.{lfoTypes, lfoTypeAt, modes, modeAt, directions, directionAt, feels, feelAt, noYes, yesNoAt}
 use Rattle.settings.specs.Divisions.{divisionAt}
 use Rattle.settings.specs.Times.{rates, syncedRate, hzRate, rateAt, spans, syncedSpan, spanAt, scales, scaleAt}
-use Rattle.settings.specs.Codes.{smooths, smoothAt, withSpans, withSwitches, settingsAt, transportAt, withKind, withMode, withDirection, withYesNo, withRate, withSpan, withScale, withSmooth, rateKnown, spanKnown, scaleKnown, smoothKnown, settingsKnown, transportKnown, isSettings, isTransport}
+use Rattle.settings.specs.Codes.{smooths, smoothAt, withSpans, withSwitches, settingsAt, transportAt, withKind, withMode, withDirection, withYesNo, withRate, withSpan, withScale, withSmooth, rateKnown, spanKnown, scaleKnown, smoothKnown, settingsKnown, transportKnown, isSettings, isTransport, SettingsKnownRule, TransportKnownRule}
 use Rattle.settings.specs.declared.choices.LfoType.{LfoType}
 use Rattle.settings.specs.declared.choices.LfoTypeCode.{LfoTypeCode}
 use Rattle.settings.specs.declared.choices.LfoTypeCode.the-variants as LfoTypeCode
@@ -42,12 +42,6 @@ use Rattle.settings.specs.declared.record.Smooth.{Smooth}
 use Rattle.codes.specs.declared.SmoothCodes.{SmoothCodes}
 use Rattle.settings.specs.declared.record.SmoothCode.{SmoothCode}
 use Rattle.settings.specs.declared.record.SmoothCode.the-variants as SmoothCode
-use Rattle.codes.specs.declared.SettingsCodes.{SettingsCodes}
-use Rattle.settings.specs.declared.record.SettingsCode.{SettingsCode}
-use Rattle.settings.specs.declared.record.SettingsCode.the-variants as SettingsCode
-use Rattle.codes.specs.declared.TransportCodes.{TransportCodes}
-use Rattle.settings.specs.declared.record.TransportCode.{TransportCode}
-use Rattle.settings.specs.declared.record.TransportCode.the-variants as TransportCode
 
 -- ---- whether a code is known
 
@@ -216,7 +210,7 @@ span-known c = at (c .code)
 
 -- ---- whole records
 
-pub settings-known : (c : SettingsCodes) → isSettings (settingsAt c) ≡ settingsKnown c
+pub settings-known : SettingsKnownRule
 unfolding settingsAt withSwitches withSpans settingsKnown
 settings-known c =
     simp (and-assoc)
@@ -231,7 +225,7 @@ settings-known c =
     with-span isSettings refl (spanAt (c .delay)) (span-known (c .delay)) λ delay.
     with-smooth isSettings refl (smoothAt (c .smooth)) (smooth-known (c .smooth)) (λ smooth. refl) ∙ and-true _)
 
-pub transport-known : (c : TransportCodes) → isTransport (transportAt c) ≡ transportKnown c
+pub transport-known : TransportKnownRule
 unfolding transportAt transportKnown
 transport-known c =
     with-yes-no isTransport refl (yesNoAt (c .playing)) (yes-no-known (c .playing)) λ playing.

@@ -1,4 +1,5 @@
 -- Settings and a transport from their codes: known where every code is. Assumes nothing.
+use mathlib.Core.Path.{_≡_}
 use mathlib.Core.Bool.{Bool, true, false, _&&_, cond}
 use mathlib.Core.List.{List, [], _∷_}
 use lib.Dec.{eqb, ltb}
@@ -178,3 +179,10 @@ isSettings SettingsCode.Unknown = false
 abbrev pub isTransport : TransportCode → Bool
 isTransport (TransportCode.Known t) = true
 isTransport TransportCode.Unknown = false
+
+-- that the test says it, proved in proofs/Known.antt
+abbrev pub SettingsKnownRule : Type 0
+SettingsKnownRule = (c : SettingsCodes) → isSettings (settingsAt c) ≡ settingsKnown c
+
+abbrev pub TransportKnownRule : Type 0
+TransportKnownRule = (c : TransportCodes) → isTransport (transportAt c) ≡ transportKnown c

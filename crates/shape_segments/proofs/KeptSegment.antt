@@ -18,7 +18,8 @@ use Rattle.points.specs.Arrays.{Ascends, partitionPoint}
 use Rattle.points.proofs.Partition.{partition-le}
 use Rattle.points.proofs.Bounds.{lower, upper, everywhere, place-holds, holds-place}
 use Rattle.shape_segments.specs.declared.Segment.{Segment}
-use Rattle.shape_segments.specs.Segments.{emptySegment, holdOf, betweenOf, containsOf, segmentAt, drawnSegment}
+use Rattle.shape_segments.specs.Segments.{holdOf, betweenOf, containsOf, segmentAt, drawnSegment}
+use Rattle.shape_segments.specs.Laws.{SegmentHolds, SegmentKept, SegmentVoid}
 use Rattle.shape_segments.proofs.Cases.{no-points, at-place}
 
 module _ (xs ys es : List Float) (steps : List Bool) (n : ℕ) where
@@ -68,27 +69,25 @@ module _ (xs ys es : List Float) (steps : List Bool) (n : ℕ) where
       same-place : (i : ℕ) → i ≤ n → T (containsOf (segmentAt xs ys es steps n i) p) → partitionPoint xs n p ≡ i
       same-place i h holds = holds-place xs n up p i h (rw (segment-lo i, segment-hi i h) at holds)
 
-  -- ---- of a search
+-- ---- of a search
 
-  module _ (up : Ascends xs n) where
-    pub found-holds : (x : Float) → T (finite x) → T (containsOf (drawnSegment xs ys es steps n x) x)
-    found-holds x f = go (ℕ-discrete n 0)
-      where
-        go : Dec (n ≡ 0) → T (containsOf (drawnSegment xs ys es steps n x) x)
-        go (yes none) = rw (no-points xs ys es steps n x none) (everywhere x f)
-        go (no some) = rw (at-place xs ys es steps n x (partitionPoint xs n x) some refl) (place-found some up x f)
+pub found-holds : SegmentHolds
+found-holds xs ys es steps n up x f = go (ℕ-discrete n 0)
+  where
+    go : Dec (n ≡ 0) → T (containsOf (drawnSegment xs ys es steps n x) x)
+    go (yes none) = rw (no-points xs ys es steps n x none) (everywhere x f)
+    go (no some) = rw (at-place xs ys es steps n x (partitionPoint xs n x) some refl) (place-found xs ys es steps n some up x f)
 
-    pub kept-segment : (q p : Float) → T (containsOf (drawnSegment xs ys es steps n q) p) → drawnSegment xs ys es steps n q ≡ drawnSegment xs ys es steps n p
-    kept-segment q p holds = go (ℕ-discrete n 0)
-      where
-        go : Dec (n ≡ 0) → drawnSegment xs ys es steps n q ≡ drawnSegment xs ys es steps n p
-        go (yes none) = no-points xs ys es steps n q none ∙ sym (no-points xs ys es steps n p none)
-        go (no some) =
-            let i = partitionPoint xs n q in
-            let e = at-place xs ys es steps n q i some refl in
-            e
-            ∙ sym (at-place xs ys es steps n p i some (sym (same-place some up p i (partition-le xs n q) (subst (λ (s : Segment). T (containsOf s p)) e holds))))
+pub kept-segment : SegmentKept
+kept-segment xs ys es steps n up q p holds = go (ℕ-discrete n 0)
+  where
+    go : Dec (n ≡ 0) → drawnSegment xs ys es steps n q ≡ drawnSegment xs ys es steps n p
+    go (yes none) = no-points xs ys es steps n q none ∙ sym (no-points xs ys es steps n p none)
+    go (no some) =
+        let i = partitionPoint xs n q in
+        let e = at-place xs ys es steps n q i some refl in
+        e
+        ∙ sym (at-place xs ys es steps n p i some (sym (same-place xs ys es steps n some up p i (partition-le xs n q) (subst (λ (s : Segment). T (containsOf s p)) e holds))))
 
--- the void segment holds nothing
-pub empty-holds-nothing : (x : Float) → T (containsOf emptySegment x) → ⊥
+pub empty-holds-nothing : SegmentVoid
 empty-holds-nothing x h = lt-not-le x f32-0 (and-r (le f32-0 x) (lt x f32-0) h) (and-l (le f32-0 x) (lt x f32-0) h)

@@ -12,6 +12,7 @@ use borrow.Author.Tests.{eq-eqb, ne-eqb}
 use Rattle.floatlaws.proofs.NoNan.{Number}
 use Rattle.points.specs.Arrays.{Ascends, partitionPoint}
 use Rattle.shape_segments.specs.Segments.{segmentAt, drawnSegment, rustSegment}
+use Rattle.shape_segments.specs.Laws.{SegmentRust}
 use Rattle.listlaws.proofs.LastWhere.{back, later}
 use Rattle.shape_segments.proofs.Cases.{no-points, at-place}
 use Rattle.points.proofs.Partition.{partition-le, partition-at, partition-after, partition-first, partition-later}
@@ -50,10 +51,10 @@ module _ (xs ys es : List Float) (steps : List Bool) (n : ℕ) (up : Ascends xs 
               back k,
             )
 
-  pub rust-segment : drawnSegment xs ys es steps n x ≡ rustSegment xs ys es steps n x
-  unfolding rustSegment
-  rust-segment = go (ℕ-discrete n 0)
-    where
-      go : Dec (n ≡ 0) → drawnSegment xs ys es steps n x ≡ rustSegment xs ys es steps n x
-      go (yes none) = no-points xs ys es steps n x none ∙ rw (eq-eqb n 0 none)
-      go (no some) = at-place xs ys es steps n x (partitionPoint xs n x) some refl ∙ at-some some (partitionPoint xs n x) refl
+pub rust-segment : SegmentRust
+unfolding rustSegment
+rust-segment xs ys es steps n up x number = go (ℕ-discrete n 0)
+  where
+    go : Dec (n ≡ 0) → drawnSegment xs ys es steps n x ≡ rustSegment xs ys es steps n x
+    go (yes none) = no-points xs ys es steps n x none ∙ rw (eq-eqb n 0 none)
+    go (no some) = at-place xs ys es steps n x (partitionPoint xs n x) some refl ∙ at-some xs ys es steps n up x number some (partitionPoint xs n x) refl

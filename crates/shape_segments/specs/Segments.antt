@@ -10,7 +10,7 @@ use Rattle.floatlaws.specs.Rounded.{_+₃₂_, _-₃₂_, _×₃₂_, _÷₃₂
 use Rattle.points.specs.Arrays.{partitionPoint}
 use Rattle.shape_segments.specs.declared.Segment.{Segment}
 
--- The void segment: it holds no x (`empty-holds-nothing` of proofs/KeptSegment.antt). It stands for the Rust's `Segment::hold(NAN, NAN, 0.0)`, which holds none either.
+-- The void segment: it holds no x (`SegmentVoid` of Laws.antt). It stands for the Rust's `Segment::hold(NAN, NAN, 0.0)`, which holds none either.
 abbrev pub emptySegment : Segment
 emptySegment = record { lo = f32-0; hi = f32-0; x0 = f32-0; «inv_w» = f32-0; y0 = f32-0; dy = f32-0; e = f32-0 }
 

@@ -1,13 +1,13 @@
 -- What the proof of `floor_to_i64` cites: with +0 added, the floor of an x of less than 2 ^ 51 in size is a whole number that the cast takes, and the cast gives the same integer. Assumes nothing.
 use mathlib.Core.Path.{_≡_, refl, sym, ap, _∙_, subst}
-use mathlib.Core.Bool.{Bool, true, false, _&&_, cond}
+use mathlib.Core.Bool.{Bool, true, false, cond}
 use Prim.Native.Nat.{ℕ, zero, suc, _+_, _-_, _*_, _^_, _≤_, zero-le}
-use native.Mathlib.Nat.{le-trans, le-of-eq, lt-of-le-of-lt, zero-lt-suc, mul-one}
+use native.Mathlib.Nat.{le-trans, lt-of-le-of-lt, zero-lt-suc, mul-one}
 use native.Mathlib.Omega.{arith}
-use lib.IntN.{ℤ, pos, negsuc}
+use lib.IntN.{pos}
 use lib.Dec.{T, ltb, lt→ltb, le→leb, lit<, lit≤}
 use lib.Arith.{le→nltb}
-use lib.Ieee.{Float, nan, inf, fin, binary64, up, down, round, add, sum, lt, ofInt, toSigned, inSigned, inFloat, whole}
+use lib.Ieee.{Float, nan, inf, fin, binary64, up, down, round, add, lt, ofInt, toSigned, inSigned, inFloat, whole}
 use lib.Ieee.Back.{round-whole, positive-back, negative-back}
 use lib.Ieee.Bits.{is-true, is-false}
 use Rattle.floatlaws.specs.Whole.{toFloor, wholeSize, wholeOf}

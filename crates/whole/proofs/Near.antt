@@ -2,16 +2,16 @@
 -- so the sum is a whole number next to the exact one, and the difference from it is exact. Assumes nothing.
 use mathlib.Core.Path.{_≡_, refl, sym, ap, _∙_, subst}
 use mathlib.Core.Logic.{_⊎_, inl, inr}
-use mathlib.Core.Bool.{Bool, true, false, not, _&&_, cond}
+use mathlib.Core.Bool.{Bool, true, false, not, cond}
 use Prim.Native.Nat.{ℕ, zero, suc, _+_, _-_, _*_, _/_, _%_, _^_, _≤_, _<_, compare}
-use native.Mathlib.Nat.{le-refl, le-trans, le-of-eq, lt-of-le-of-lt, lt-of-lt-of-le, le-antisymm, lt-irrefl, zero-lt-suc, zero-mul, mul-one, mul-comm, mul-assoc, mul-right-comm, add-mul, suc-mul, mod-lt, div-add-mod', add-mul-div-right, div-lt-iff-lt-mul, mul-le-mul-right, le-of-mul-le-mul-right, lt-of-mul-lt-mul-right, eq-of-mul-eq-mul-right, eq-or-lt-of-le}
+use native.Mathlib.Nat.{le-refl, le-trans, le-of-eq, lt-of-le-of-lt, lt-of-lt-of-le, le-antisymm, zero-lt-suc, mul-one, mul-comm, mul-assoc, mul-right-comm, add-mul, suc-mul, mod-lt, div-add-mod', add-mul-div-right, div-lt-iff-lt-mul, mul-le-mul-right, le-of-mul-le-mul-right, lt-of-mul-lt-mul-right, eq-of-mul-eq-mul-right, eq-or-lt-of-le}
 use native.Mathlib.Omega.{arith}
 use lib.IntN.{ℤ, pos, negsuc}
 use lib.Dec.{T, T-not, ltb, ltb→lt, lt→ltb, nltb→le, lit<, lit≤}
 use lib.Pow.{pow-pos}
 use lib.Arith.{le→nltb}
-use lib.Ieee.{Float, nan, inf, fin, binary64, low, emax, up, down, nearest, below, units, round, neg, add, sub, sum, lt, fits}
-use lib.Ieee.Fits.{down-pos, round-fits, nearest-le}
+use lib.Ieee.{Float, nan, inf, fin, binary64, up, down, below, units, round, neg, add, sub, sum, lt, fits}
+use lib.Ieee.Fits.{down-pos, nearest-le}
 use lib.Ieee.Exact.{HasValue, units-val}
 use lib.Ieee.Back.{round-whole, whole-unique}
 use lib.Ieee.Nearest.{closest, closest-mono, nearest-ge}

@@ -2,13 +2,12 @@
 -- Assumes nothing.
 use mathlib.Core.Path.{ap, _∙_}
 use borrow.Author.Needs.{needs}
-use lib.Ieee.{Float, binary64, add, toSigned, ofBits, neg}
+use lib.Ieee.{binary64, add, toSigned, ofBits, neg}
 use lib.Ieee.Casts.{toSigned-in}
 use mir.Syntax.{w64}
 use mir.ValLaws.{toZ-ofZ}
-use Rattle.floatlaws.specs.Whole.{toFloor, wholeOf}
 use Rattle.floatlaws.proofs.Tests.{yes-so}
-use Rattle.whole.proofs.Cast.{Cast, nought, cast}
+use Rattle.whole.proofs.Cast.{nought, cast}
 use Rattle.whole.proofs.floor_to_i64.Statement.{statement}
 use Rattle.whole.proofs.floor_to_i64.Tie as tie
 

@@ -1,7 +1,7 @@
 -- `read_path` meets its contract. Assumes nothing.
 use borrow.Author.Needs.{needs}
 use Rattle.runs.specs.Curves.{path}
-use Rattle.runs.proofs.Laws.{chain, last}
+use Rattle.fields.proofs.Places.{chain, last}
 use Rattle.runs.proofs.paths.read_path.Statement.{statement}
 use Rattle.runs.proofs.paths.read_path.Tie as tie
 

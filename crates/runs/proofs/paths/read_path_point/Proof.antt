@@ -1,7 +1,7 @@
 -- `read_path_point` meets its contract. Assumes nothing.
 use borrow.Author.Needs.{needs}
 use Rattle.runs.specs.Curves.{pathPoint}
-use Rattle.runs.proofs.Laws.{chain, last}
+use Rattle.fields.proofs.Places.{chain, last}
 use Rattle.runs.proofs.paths.read_path_point.Statement.{statement}
 use Rattle.runs.proofs.paths.read_path_point.Tie as tie
 

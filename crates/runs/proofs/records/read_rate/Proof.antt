@@ -1,7 +1,7 @@
 -- `read_rate` meets its contract. Assumes nothing.
 use borrow.Author.Needs.{needs}
 use Rattle.runs.specs.Records.{rate}
-use Rattle.runs.proofs.Laws.{chain, last}
+use Rattle.fields.proofs.Places.{chain, last}
 use Rattle.runs.proofs.records.read_rate.Statement.{statement}
 use Rattle.runs.proofs.records.read_rate.Tie as tie
 

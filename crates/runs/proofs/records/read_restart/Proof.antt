@@ -1,7 +1,7 @@
 -- `read_restart` meets its contract. Assumes nothing.
 use borrow.Author.Needs.{needs}
 use Rattle.runs.specs.Records.{restart}
-use Rattle.runs.proofs.Laws.{chain, last}
+use Rattle.fields.proofs.Places.{chain, last}
 use Rattle.runs.proofs.records.read_restart.Statement.{statement}
 use Rattle.runs.proofs.records.read_restart.Tie as tie
 

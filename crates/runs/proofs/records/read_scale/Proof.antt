@@ -1,7 +1,7 @@
 -- `read_scale` meets its contract. Assumes nothing.
 use borrow.Author.Needs.{needs}
 use Rattle.runs.specs.Records.{scale}
-use Rattle.runs.proofs.Laws.{chain, last}
+use Rattle.fields.proofs.Places.{chain, last}
 use Rattle.runs.proofs.records.read_scale.Statement.{statement}
 use Rattle.runs.proofs.records.read_scale.Tie as tie
 

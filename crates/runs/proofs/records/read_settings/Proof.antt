@@ -1,7 +1,7 @@
 -- `read_settings` meets its contract. Assumes nothing.
 use borrow.Author.Needs.{needs}
 use Rattle.runs.specs.Records.{settings}
-use Rattle.runs.proofs.Laws.{chain, last}
+use Rattle.fields.proofs.Places.{chain, last}
 use Rattle.runs.proofs.records.read_settings.Statement.{statement}
 use Rattle.runs.proofs.records.read_settings.Tie as tie
 

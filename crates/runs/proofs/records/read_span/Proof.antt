@@ -1,7 +1,7 @@
 -- `read_span` meets its contract. Assumes nothing.
 use borrow.Author.Needs.{needs}
 use Rattle.runs.specs.Records.{span}
-use Rattle.runs.proofs.Laws.{chain, last}
+use Rattle.fields.proofs.Places.{chain, last}
 use Rattle.runs.proofs.records.read_span.Statement.{statement}
 use Rattle.runs.proofs.records.read_span.Tie as tie
 

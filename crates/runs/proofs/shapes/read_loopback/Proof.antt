@@ -1,7 +1,7 @@
 -- `read_loopback` meets its contract. Assumes nothing.
 use borrow.Author.Needs.{needs}
 use Rattle.runs.specs.Curves.{loopback}
-use Rattle.runs.proofs.Laws.{chain, last}
+use Rattle.fields.proofs.Places.{chain, last}
 use Rattle.runs.proofs.shapes.read_loopback.Statement.{statement}
 use Rattle.runs.proofs.shapes.read_loopback.Tie as tie
 

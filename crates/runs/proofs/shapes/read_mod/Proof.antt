@@ -1,7 +1,7 @@
 -- `read_mod` meets its contract. Assumes nothing.
 use borrow.Author.Needs.{needs}
 use Rattle.runs.specs.Curves.{modulation}
-use Rattle.runs.proofs.Laws.{chain, last}
+use Rattle.fields.proofs.Places.{chain, last}
 use Rattle.runs.proofs.shapes.read_mod.Statement.{statement}
 use Rattle.runs.proofs.shapes.read_mod.Tie as tie
 

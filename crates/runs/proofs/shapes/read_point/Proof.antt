@@ -1,7 +1,7 @@
 -- `read_point` meets its contract. Assumes nothing.
 use borrow.Author.Needs.{needs}
 use Rattle.runs.specs.Curves.{point}
-use Rattle.runs.proofs.Laws.{chain, last}
+use Rattle.fields.proofs.Places.{chain, last}
 use Rattle.runs.proofs.shapes.read_point.Statement.{statement}
 use Rattle.runs.proofs.shapes.read_point.Tie as tie
 

@@ -5,9 +5,9 @@ use mathlib.Core.Logic.{⊎-elim}
 use native.Mathlib.Omega.{arith}
 use borrow.Author.Needs.{needs}
 use lib.ListN.{length, length-set}
-use Rattle.runs.specs.Parser.{Reads}
+use Rattle.fields.specs.Places.{Reads}
 use Rattle.runs.specs.Curves.{kept, points}
-use Rattle.runs.proofs.Laws.{last}
+use Rattle.fields.proofs.Places.{last}
 use Rattle.runs.proofs.Loops.{stored, passed}
 use Rattle.runs.proofs.shapes.read_points.Statement.{statement}
 use Rattle.runs.proofs.shapes.read_points.Tie as tie

@@ -1,7 +1,7 @@
 -- `read_shape` meets its contract. Assumes nothing.
 use borrow.Author.Needs.{needs}
 use Rattle.runs.specs.Curves.{shape}
-use Rattle.runs.proofs.Laws.{chain, last}
+use Rattle.fields.proofs.Places.{chain, last}
 use Rattle.runs.proofs.shapes.read_shape.Statement.{statement}
 use Rattle.runs.proofs.shapes.read_shape.Tie as tie
 

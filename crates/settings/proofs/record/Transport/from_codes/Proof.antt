@@ -1,9 +1,6 @@
 -- `Transport::from_codes` meets its contract. Assumes nothing.
-use mathlib.Core.Path.{_≡_, _∙_, sym}
 use borrow.Author.Needs.{needs}
-use Rattle.settings.specs.Choices.{yesNoAt}
 use Rattle.settings.specs.Codes.{transportAt}
-use Rattle.settings.specs.Times.{scaleAt}
 use Rattle.settings.proofs.record.Transport.from_codes.Statement.{statement}
 use Rattle.settings.proofs.record.Transport.from_codes.Tie as tie
 

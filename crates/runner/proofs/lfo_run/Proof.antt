@@ -1,0 +1,28 @@
+-- `lfo_run` meets its contract. Assumes nothing.
+use borrow.Author.Needs.{needs}
+use Rattle.runner.proofs.Turning.{start-room, runs-short, runs-on}
+use Rattle.runner.proofs.lfo_run.Statement.{statement}
+use Rattle.runner.proofs.lfo_run.Tie as tie
+
+write-reply-requires : tie.Need-write-reply-requires
+write-reply-requires c κs = let r = c .before .made .ensures in (r .long, r .short, r .valid)
+
+calls-requires : tie.Need-calls-requires
+calls-requires c κs =
+    let w = c .before .before .before .before .before in
+    let t = w .write-reply .ensures _ in
+    (t .valid, start-room (w .before .before .made .ensures) t)
+
+returns : tie.Need-returns
+returns c =
+    let w = c .before .before .before .before .before .before .before .before in
+    let made = w .before .before .made .ensures in
+    runs-on made (w .write-reply .ensures _) (c .before .before .before .before .before .if1 .taken) (c .before .before .calls .ensures)
+
+returns-2 : tie.Need-returns-2
+returns-2 c =
+    let w = c .before .before .before in
+    runs-short (w .before .before .made .ensures) (w .write-reply .ensures _) (c .if1 .left)
+
+pub lfo-run-spec : {M : Type 1} → statement M
+lfo-run-spec = tie.close (tie.spec (λ c κs. search needs) write-reply-requires calls-requires (λ c. search needs) returns (λ c. search needs) returns-2)
