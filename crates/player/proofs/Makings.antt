@@ -13,12 +13,12 @@ use Rattle.settings.specs.Codes.{settingsAt}
 use Rattle.settings.specs.Records.{defaultSettings}
 use Rattle.reach.specs.Bounds.{SettingsIn}
 use Rattle.slot.specs.declared.Slot.{Slot}
-use Rattle.slot.specs.Slot as slot
+use Rattle.slot.specs.Slot.{newSlot, StoredIn}
 use Rattle.questions.specs.Questions.{firstNo, settingsQuestions}
 use Rattle.questions.proofs.Facts.{settings-in}
 use Rattle.calls.specs.State.{newState}
 use Rattle.calls.specs.Calls.{bySettings, noPlayer, made}
-use Rattle.player.specs.Player.{stateOf, StoredIn}
+use Rattle.player.specs.Player.{stateOf}
 use Rattle.player.specs.Promises.{firstSettings, Makes}
 use Rattle.player.proofs.Players.{new-valid}
 
@@ -35,7 +35,7 @@ module _ (c : SettingsCodes) (seed : ℕ) where
   made-is true SettingsCode.Unknown = refl
   made-is false k = refl
 
-  first-is : stateOf (record { slot = slot.newSlot (firstSettings (firstNo (settingsQuestions c)) c) seed; played = 0 }) ≡ made c seed
+  first-is : stateOf (record { slot = newSlot (firstSettings (firstNo (settingsQuestions c)) c) seed; played = 0 }) ≡ made c seed
   unfolding firstSettings made newState
   first-is = made-is (eqb (firstNo (settingsQuestions c)) 0) (settingsAt c)
 
@@ -49,11 +49,11 @@ module _ (c : SettingsCodes) (seed : ℕ) where
         go true e SettingsCode.Unknown known g = default-in
         go false e k known g = default-in
 
-    pub makes-player : (s : Settings) (r : Slot) → s ≡ firstSettings a c → slot.Makes s seed r
+    pub makes-player : (s : Settings) (r : Slot) → s ≡ firstSettings a c → r ≡ newSlot s seed
         → Makes c seed (record { answer = a; player = record { slot = r; played = 0 } })
     makes-player s r e new =
         record {
           answer-is = asked;
-          state-is = rw (new .slot-is, e, asked) first-is;
-          valid = new-valid s seed r (subst StoredIn (sym e) first-in) (new .slot-is);
+          state-is = rw (new, e, asked) first-is;
+          valid = new-valid s seed r (subst StoredIn (sym e) first-in) (new);
         }

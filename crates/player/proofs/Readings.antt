@@ -1,7 +1,7 @@
 -- What reading the phase gives, of the equations of what it calls. Assumes nothing.
 use Prim.Native.Nat.{ℕ}
-use mathlib.Core.Path.{_≡_, refl, sym, ap, _∙_}
-use mathlib.Core.List.{List, [], _∷_}
+use mathlib.Core.Path.{_≡_, sym, ap, _∙_}
+use mathlib.Core.List.{[], _∷_}
 use lib.Ieee.{Float}
 use Rattle.settings.specs.declared.record.Transport.{Transport}
 use Rattle.codes.specs.declared.TransportCodes.{TransportCodes}
@@ -9,13 +9,11 @@ use Rattle.settings.specs.declared.record.TransportCode.the-variants as Transpo
 use Rattle.settings.specs.Codes.{transportAt}
 use Rattle.clock.specs.Ready.{phaseRead}
 use Rattle.questions.specs.Questions.{firstNo, phaseQuestions}
-use Rattle.questions.specs.Answers.{Answer, refusal, success}
+use Rattle.questions.specs.Answers.{refusal, success}
 use Rattle.calls.specs.State.{State}
 use Rattle.calls.specs.Blocks.{phaseAt}
 use Rattle.calls.specs.Calls.{phase, questions, answer}
-use Rattle.player.specs.declared.Reading.{Reading}
-use Rattle.player.specs.declared.Reading.the-variants as Reading
-use Rattle.player.specs.Readings.{readingAnswer, phaseAnswer}
+use Rattle.player.specs.Readings.{phaseAnswer}
 use Rattle.player.proofs.Answers.{accepts-it, refuses-it}
 
 module _ (p : State) (c : TransportCodes) (a : ℕ) (asked : a ≡ firstNo (phaseQuestions c)) where
@@ -36,16 +34,3 @@ module _ (p : State) (c : TransportCodes) (a : ℕ) (asked : a ≡ firstNo (phas
       → success (x ∷ []) ≡ phaseAnswer p c
   unfolding phaseAnswer phaseAt
   phase-at e t known x is = let zero : answer p (phase c) ≡ 0 = sym put ∙ e in rw (zero, known, is)
-
--- An answer's number and values tell its case, so that a promise of them is one of the enum.
-reading-case : ℕ → List Float → Reading
-reading-case n [] = Reading.Refused n
-reading-case n (x ∷ l) = Reading.At x
-
-reading-told : (r : Reading) → reading-case (readingAnswer r .number) (readingAnswer r .values) ≡ r
-unfolding readingAnswer reading-case
-reading-told (Reading.Refused n) = refl
-reading-told (Reading.At x) = refl
-
-pub reading-injective : (r s : Reading) → readingAnswer r ≡ readingAnswer s → r ≡ s
-reading-injective r s e = sym (reading-told r) ∙ ap (λ (a : Answer). reading-case (a .number) (a .values)) e ∙ reading-told s

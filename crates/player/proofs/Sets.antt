@@ -17,14 +17,15 @@ use Rattle.shape.specs.declared.Shape.{Shape}
 use Rattle.shape.specs.Shapes.{within, shapeOf}
 use Rattle.shape.proofs.Accepted.{accepted-x}
 use Rattle.path.specs.declared.Path.{Path}
-use Rattle.path.specs.Paths.{pathOf}
 use Rattle.settings.specs.declared.record.Settings.{Settings}
 use Rattle.codes.specs.declared.SettingsCodes.{SettingsCodes}
 use Rattle.settings.specs.declared.record.SettingsCode.the-variants as SettingsCode
 use Rattle.settings.specs.Codes.{settingsAt}
 use Rattle.settings.specs.Records.{clampedSettings}
 use Rattle.slot.specs.Moved.{LoopbackIn}
+use Rattle.slot.specs.Slot.{StoredIn, ShapeIn, PathIn, BusesIn}
 use Rattle.slot.proofs.Curves.{accepted-path}
+use Rattle.slot.proofs.Slots.{clamped-in}
 use Rattle.codes.specs.declared.ShapeCodes.{ShapeCodes}
 use Rattle.codes.specs.declared.PathCodes.{PathCodes}
 use Rattle.curves.specs.Given.{isYes, givenPoints, loopbackOf, givenShape, givenPathPoints, givenPath}
@@ -33,10 +34,10 @@ use Rattle.questions.proofs.Facts.{settings-in, shape-accepted, bus-accepted}
 use Rattle.calls.specs.State.{withSettings, withShape, withPath, withBus, movedBuses}
 use Rattle.calls.specs.Calls.{settings, shape, path, bus, questions, answer, accepted}
 use Rattle.player.specs.declared.Player.{Player}
-use Rattle.player.specs.Player.{stateOf, editedPlayer, StoredIn, ShapeIn, PathIn, BusesIn, Valid}
+use Rattle.player.specs.Player.{stateOf, editedPlayer, Valid}
 use Rattle.player.specs.Promises.{Changes}
 use Rattle.player.proofs.Answers.{refused, changed}
-use Rattle.player.proofs.Players.{clamped-in, edited-valid, bus-in}
+use Rattle.player.proofs.Players.{edited-valid, bus-in}
 
 -- a player with other settings, curves and buses
 module _ (p : Player) where
@@ -47,7 +48,7 @@ module _ (p : Player) where
       → Valid (edited s drawn way values)
   edited-in v s drawn way values i j k l =
       edited-valid p (record { settings = s; shape = drawn; path = way; buses = values; clock = p .slot .lfo .clock }) v
-      (record { settings-in = i; shape-in = j; path-in = k; buses-in = l })
+      (record { settings-in = i; shape-in = j; path-in = k; buses-in = l; clock-in = v .lfo-in .clock-in })
 
 -- ---- settings
 
@@ -132,8 +133,8 @@ module _ (p : Player) (v : Valid p) (c : PathCodes) (a : ℕ) (asked : a ≡ fir
   path-refused e = refused p _ a path-put e v
 
   travelled-in : PathIn travelled
-  unfolding givenPath pathOf
-  travelled-in = record { short = min-le-right (c .count) 64; times-up = accepted-path (givenPathPoints (c .points) (min (c .count) 64)) (c .count) (isYes (c .closed)) }
+  unfolding givenPath
+  travelled-in = accepted-path (givenPathPoints (c .points) (min (c .count) 64)) (c .count) (isYes (c .closed))
 
   abbrev byPath : Path → Player
   byPath s = let l = p .slot .lfo in edited p (l .settings) (l .shape) s (l .buses)

@@ -1,9 +1,10 @@
 -- What each call promises: the answer, the player and both buffers, by the definitions of crate `calls`. Assumes nothing.
-use Prim.Native.Nat.{ℕ}
+use Prim.Native.Nat.{ℕ, _+_, _^_, _≤_}
 use mathlib.Core.Path.{_≡_}
 use mathlib.Core.Bool.{Bool, false, cond}
-use mathlib.Core.List.{List}
+use mathlib.Core.List.{List, _++_}
 use lib.Dec.{eqb}
+use lib.ListN.{length, drop}
 use lib.Ieee.{Float}
 use Rattle.settings.specs.declared.record.Settings.{Settings}
 use Rattle.codes.specs.declared.SettingsCodes.{SettingsCodes}
@@ -11,12 +12,12 @@ use Rattle.settings.specs.declared.record.Transport.{Transport}
 use Rattle.codes.specs.declared.TransportCodes.{TransportCodes}
 use Rattle.settings.specs.Codes.{settingsAt, transportAt}
 use Rattle.settings.specs.Records.{defaultSettings}
+use Rattle.reach.specs.Bounds.{SettingsIn, TransportIn}
 use Rattle.bank.specs.declared.parts.Pending.{Pending}
-use Rattle.slot.specs.Slot.{Processes}
 use Rattle.codes.specs.declared.RestartCodes.{RestartCodes}
 use Rattle.questions.specs.Questions.{firstNo, settingsQuestions}
 use Rattle.calls.specs.State.{State}
-use Rattle.calls.specs.Blocks.{pendingOf, finished}
+use Rattle.calls.specs.Blocks.{pendingOf, playedState, values, finished}
 use Rattle.calls.specs.Calls.{Call, block, answer, accepts, bySettings, byTransport, made, step, buffer}
 use Rattle.player.specs.declared.Player.{Player}
 use Rattle.player.specs.declared.Made.{Made}
@@ -49,11 +50,25 @@ pub record Changes (p : Player) (c : Call) (r : Changed) : Type 0 where
 
 -- ---- playing a block
 
--- of a block that is played: the slot after it, `played` frames in all, and both buffers
-pub record Renders (p : Player) (played : ℕ) (t : Transport) (at : Pending) (frames : ℕ) (x y : List Float) (r : Played) (x′ y′ : List Float) : Type 0 where
+-- what playing an accepted block asks; `played` are the frames played after it
+pub record Ready (p : Player) (played : ℕ) (t : Transport) (frames : ℕ) (x y : List Float) : Type 0 where
+  pub valid : Valid p
+  pub settings-in : SettingsIn (p .slot .lfo .settings)
+  pub transport-in : TransportIn t
+  pub short : frames ≤ 4096
+  pub played-is : played ≡ p .played + frames
+  pub within : played ≤ 2 ^ 40
+  pub room-x : frames ≤ length x
+  pub room-y : frames ≤ length y
+
+-- and what it gives; of the cache only what `Valid` says
+pub record PlaysBlock (p : Player) (t : Transport) (at : Pending) (frames : ℕ) (x y : List Float) (r : Played) (x′ y′ : List Float) : Type 0 where
   pub answer-is : r .answer ≡ 0
-  pub played-is : r .player .played ≡ played
-  pub processes : Processes (p .slot) t at frames x y (r .player .slot) (r .finished) x′ y′
+  pub state-is : stateOf (r .player) ≡ playedState (stateOf p) t frames at
+  pub finished-is : r .finished ≡ finished (stateOf p) t frames at
+  pub x-is : x′ ≡ values (stateOf p) t frames at (λ f. f .x) ++ drop frames x
+  pub y-is : y′ ≡ values (stateOf p) t frames at (λ f. f .y) ++ drop frames y
+  pub valid : Valid (r .player)
 
 -- a block that is refused says 0
 unfoldable pub finishedBy : State → TransportCodes → ℕ → RestartCodes → List Float → List Float → Bool

@@ -6,13 +6,13 @@ use Rattle.questions.specs.Answers.{Answer, refusal, success, answerWith}
 use Rattle.calls.specs.State.{State}
 use Rattle.calls.specs.Blocks.{phaseAt}
 use Rattle.calls.specs.Calls.{phase, answer, byTransport}
-use Rattle.player.specs.declared.Reading.{Reading}
-use Rattle.player.specs.declared.Reading.the-variants as Reading
+use Rattle.player.specs.declared.PhaseValue.{PhaseValue}
+use Rattle.player.specs.declared.PhaseValue.the-variants as PhaseValue
 
 -- the number and the value of each case
-unfoldable pub readingAnswer : Reading → Answer
-readingAnswer (Reading.Refused n) = refusal n
-readingAnswer (Reading.At x) = success (x ∷ [])
+unfoldable pub phaseValueAnswer : PhaseValue → Answer
+phaseValueAnswer (PhaseValue.Refused n) = refusal n
+phaseValueAnswer (PhaseValue.At x) = success (x ∷ [])
 
 -- the number of the question that refuses it, or 0 and the phase
 unfoldable pub phaseAnswer : State → TransportCodes → Answer

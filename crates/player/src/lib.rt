@@ -41,7 +41,7 @@ pub struct Played {
 }
 
 // The number of the question that refused a read of the phase, or the phase.
-pub enum Reading {
+pub enum PhaseValue {
     Refused(u8),
     At(f32),
 }

@@ -1,23 +1,23 @@
 // Reading the phase.
+use super::PhaseValue;
 use super::Player;
-use super::Reading;
 use codes::TransportCodes;
 use settings::Transport;
 use settings::TransportCode;
 ghost use mathlib.Core.Path.{_≡_};
 ghost use Rattle.player.specs.Player.{stateOf};
-ghost use Rattle.player.specs.Readings.{readingAnswer, phaseAnswer};
+ghost use Rattle.player.specs.Readings.{phaseValueAnswer, phaseAnswer};
 
 // Where the voice is in its cycle, 0 up to 1, at the next sample to play; `t` is the transport at that sample. No player changes.
-pub fn phase(p: Player, t: TransportCodes) -> Reading
-    ensures { λ r. ⌜ readingAnswer r ≡ phaseAnswer (stateOf p) t ⌝ }
+pub fn phase(p: Player, t: TransportCodes) -> PhaseValue
+    ensures { λ r. ⌜ phaseValueAnswer r ≡ phaseAnswer (stateOf p) t ⌝ }
 {
     let answer = questions::phase_answer(t);
     if answer != 0 {
-        return Reading::Refused(answer);
+        return PhaseValue::Refused(answer);
     }
     let TransportCode::Known(transport) = Transport::from_codes(t) else {
-        return Reading::Refused(answer);
+        return PhaseValue::Refused(answer);
     };
     let slot = p.slot;
     let lfo = slot.lfo;
@@ -25,5 +25,5 @@ pub fn phase(p: Player, t: TransportCodes) -> Reading
     let clock = lfo.clock;
     let voice = slot.voice;
     let anchor = voice.anchor;
-    Reading::At(clock::phase(settings, clock, anchor, transport))
+    PhaseValue::At(clock::phase(settings, clock, anchor, transport))
 }

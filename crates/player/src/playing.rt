@@ -11,8 +11,7 @@ use slot::Slot;
 ghost use mathlib.Core.Path.{_≡_};
 ghost use Rattle.calls.specs.Blocks.{pendingOf};
 ghost use Rattle.player.specs.Player.{Valid};
-ghost use Rattle.slot.specs.Slot.{Ready};
-ghost use Rattle.player.specs.Promises.{Renders, Plays};
+ghost use Rattle.player.specs.Promises.{Ready, PlaysBlock, Plays};
 
 // The restart that a block carries, if any.
 fn pending(c: RestartCodes) -> Pending
@@ -34,8 +33,8 @@ fn render(
     x: &mut [f32],
     y: &mut [f32],
 ) -> Played
-    requires { ⌜ Ready (p .slot) transport frames (now x) (now y) ⌝ }
-    ensures { λ r. ⌜ Renders p played transport at frames (now (x .entry)) (now (y .entry)) r (now (x .exit)) (now (y .exit)) ⌝ }
+    requires { ⌜ Ready p played transport frames (now x) (now y) ⌝ }
+    ensures { λ r. ⌜ PlaysBlock p transport at frames (now (x .entry)) (now (y .entry)) r (now (x .exit)) (now (y .exit)) ⌝ }
 {
     let mut slot = p.slot;
     let settings = slot.lfo.settings;

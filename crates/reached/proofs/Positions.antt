@@ -40,7 +40,7 @@ module _ (p : Player) (t : Transport) (frames : ℕ) (h : Reached p) where
   before at a k l =
       let valid = reached-valid h in
       let B = block-facts a in
-      rw zero-add at (first-placed (p .slot) t (p .played) frames (valid .slot-in) (reached-in h) (transport-within a) (B .short) (B .within-life) k (omega arith))
+      rw zero-add at (first-placed (p .slot .lfo) t (p .played) frames (valid .lfo-in) (reached-in h) (transport-within a) (B .short) (B .within-life) (p .slot .voice) (valid .anchor-in) k (omega arith))
 
   from-on : (at : Pending) (a : AcceptedBlock p t frames at) (k : ℕ) → k < frames → restartFrame at frames ≤ k
       → Placed p t frames at k (later (stateOf p) t frames at (k - restartFrame at frames))
@@ -49,7 +49,7 @@ module _ (p : Player) (t : Transport) (frames : ℕ) (h : Reached p) where
       let valid = reached-valid h in
       let B = block-facts a in
       subst (λ (j : ℕ). Placed p t frames (At i) j (later (stateOf p) t frames (At i) (k - min i frames))) (whole (min i frames) k m)
-      (later-placed (p .slot) t (p .played) frames (valid .slot-in) (reached-in h) (transport-within a) (B .short) (B .within-life) i (k - min i frames) (omega arith))
+      (later-placed (p .slot .lfo) t (p .played) frames (valid .lfo-in) (reached-in h) (transport-within a) (B .short) (B .within-life) (p .slot .voice) (valid .anchor-in) i (k - min i frames) (omega arith))
     where
       whole : (m n : ℕ) → m ≤ n → m + (n - m) ≡ n
       whole m n h = omega arith
@@ -71,5 +71,5 @@ phase-in p c h e =
       phaseAt (stateOf p) (k .0),
       rw (e, k .1) refl,
       phase-read-in (s .lfo .settings) (s .lfo .clock) (s .voice .anchor) (k .0) (p .played)
-          (reached-in h) (transport-in c a (k .0) (k .1)) (valid .slot-in .clock-in) (valid .slot-in .anchor-in) (valid .within),
+          (reached-in h) (transport-in c a (k .0) (k .1)) (valid .lfo-in .clock-in) (valid .anchor-in) (valid .within),
     )

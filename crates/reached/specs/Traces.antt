@@ -11,10 +11,10 @@ use Rattle.player.specs.declared.Player.{Player}
 use Rattle.player.specs.declared.Made.{Made}
 use Rattle.player.specs.declared.Changed.{Changed}
 use Rattle.player.specs.declared.Played.{Played}
-use Rattle.player.specs.declared.Reading.{Reading}
+use Rattle.player.specs.declared.PhaseValue.{PhaseValue}
 use Rattle.player.specs.Player.{stateOf, Valid}
 use Rattle.player.specs.Promises.{Makes, Changes, Plays}
-use Rattle.player.specs.Readings.{readingAnswer, phaseAnswer}
+use Rattle.player.specs.Readings.{phaseValueAnswer, phaseAnswer}
 
 -- a call that sets settings, shape, path or a bus
 abbrev pub Sets : Call → Type 0
@@ -30,7 +30,7 @@ Sets (block t n restart x y) = ⊥
 pub data Trace : Player → List Call → Player → Type 0 where
   none : (p : Player) → Trace p [] p
   sets : (p : Player) (c : Call) (cs : List Call) (q : Player) (r : Changed) → Sets c → Changes p c r → Trace (r .player) cs q → Trace p (c ∷ cs) q
-  reads : (p : Player) (t : TransportCodes) (cs : List Call) (q : Player) (r : Reading) → readingAnswer r ≡ phaseAnswer (stateOf p) t → Trace p cs q → Trace p (phase t ∷ cs) q
+  reads : (p : Player) (t : TransportCodes) (cs : List Call) (q : Player) (r : PhaseValue) → phaseValueAnswer r ≡ phaseAnswer (stateOf p) t → Trace p cs q → Trace p (phase t ∷ cs) q
   plays : (p : Player) (t : TransportCodes) (n : ℕ) (restart : RestartCodes) (x y : List Float) (cs : List Call) (q : Player) (r : Played) (x′ y′ : List Float)
       → Plays p t n restart x y r x′ y′ → Trace (r .player) cs q → Trace p (block t n restart x y ∷ cs) q
 

@@ -16,7 +16,7 @@ use Rattle.settings.specs.declared.record.TransportCode.the-variants as Transpo
 use Rattle.settings.specs.Codes.{settingsAt, transportAt}
 use Rattle.settings.specs.Records.{defaultSettings}
 use Rattle.slot.specs.Slot.{slotCurve}
-use Rattle.slot.specs.Moved.{curveOf}
+use Rattle.slot.specs.Moved.{movedCurve}
 use Rattle.questions.specs.Questions.{firstNo, settingsQuestions}
 use Rattle.questions.proofs.Facts.{settings-accepted}
 use Rattle.calls.specs.State.{State, newState, withSettings, withShape, withPath, withBus}
@@ -75,5 +75,5 @@ same-curve kind p q g h e =
     go (p .lfo .shape) (q .lfo .shape) (p .lfo .path) (q .lfo .path) (p .lfo .buses) (q .lfo .buses)
     (same-shape (p .lfo .shape) (q .lfo .shape) (g .shape-kept) (h .shape-kept) (e .shape)) (same-path (p .lfo .path) (q .lfo .path) (g .path-kept) (h .path-kept) (e .path)) (e .buses)
   where
-    go : (a b : Shape) (c d : Path) (l m : List Float) → a ≡ b → c ≡ d → l ≡ m → curveOf kind a c l ≡ curveOf kind b d m
+    go : (a b : Shape) (c d : Path) (l m : List Float) → a ≡ b → c ≡ d → l ≡ m → movedCurve kind a c l ≡ movedCurve kind b d m
     go a b c d l m u v w = rw (u, v, w) refl

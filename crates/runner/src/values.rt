@@ -4,12 +4,12 @@ use super::writing::malformed;
 use evaluate::PathResult;
 use evaluate::ShapeResult;
 use fields::Place;
+use player::PhaseValue;
 use player::Player;
-use player::Reading;
 ghost use mathlib.Core.Path.{_≡_};
 ghost use Rattle.evaluate.specs.Values.{shapeResultAnswer, pathResultAnswer};
 ghost use Rattle.player.specs.Player.{Valid};
-ghost use Rattle.player.specs.Readings.{readingAnswer};
+ghost use Rattle.player.specs.Readings.{phaseValueAnswer};
 ghost use Rattle.runner.specs.Asked.{phaseCall, shapeAtCall, pathAtCall};
 ghost use Rattle.runner.specs.Promises.{unchangedBy, Says, RepliesTo};
 
@@ -66,15 +66,15 @@ fn path_says(v: PathResult) -> Said
 }
 
 // The answer's number, and where it is 0 the phase's bits.
-fn reading_says(v: Reading) -> Said
-    ensures { λ r. ⌜ Says (readingAnswer v) r ⌝ }
+fn reading_says(v: PhaseValue) -> Said
+    ensures { λ r. ⌜ Says (phaseValueAnswer v) r ⌝ }
 {
     match v {
-        Reading::Refused(n) => {
+        PhaseValue::Refused(n) => {
             let numbers = [n as u64, 0, 0];
             Said { numbers, count: 1 }
         }
-        Reading::At(y) => {
+        PhaseValue::At(y) => {
             let numbers = [0, replies::bits(y), 0];
             Said { numbers, count: 2 }
         }

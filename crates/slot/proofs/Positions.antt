@@ -6,6 +6,7 @@ use Rattle.floatlaws.specs.Whole.{InUnit}
 use Rattle.position.specs.Position.{positionOf}
 use Rattle.clock.specs.declared.anchor.Anchor.{Anchor}
 use Rattle.clock.specs.declared.block.Block.{Block}
+use Rattle.clock.specs.Ready.{preparedOf}
 use Rattle.settings.specs.declared.record.Settings.{Settings}
 use Rattle.settings.specs.declared.record.Transport.{Transport}
 use Rattle.reach.specs.Bounds.{AnchorIn, BlockIn, SettingsIn, TransportIn}
@@ -15,23 +16,25 @@ use Rattle.voice.specs.Curve.{Curve}
 use Rattle.voice.specs.Generate.{countAt, placeOf}
 use Rattle.bank.specs.Render.{voiceAfter}
 use Rattle.bank.specs.Parts.{begun, restarted}
-use Rattle.slot.specs.declared.Slot.{Slot}
-use Rattle.slot.specs.Slot.{SlotIn, slotCurve, slotPrepared}
+use Rattle.slot.specs.declared.Lfo.{Lfo}
+use Rattle.slot.specs.Slot.{slotCurve, LfoIn}
 use Rattle.slot.proofs.Anchors.{after-in, begun-in-block, restarted-in-block}
+use Rattle.slot.proofs.Blocks as blocks
+use Rattle.slot.proofs.Curves.{loop-in}
 
-module _ (slot : Slot) (t : Transport) (f frames : ℕ)
-    (i : SlotIn f slot) (I : SettingsIn (slot .lfo .settings)) (J : TransportIn t) (short : frames ≤ 4096) (within : f + frames ≤ 2 ^ 40) where
+module _ (lfo : Lfo) (t : Transport) (f frames : ℕ)
+    (i : LfoIn f lfo) (I : SettingsIn (lfo .settings)) (J : TransportIn t) (short : frames ≤ 4096) (within : f + frames ≤ 2 ^ 40) where
   abbrev s : Settings
-  s = slot .lfo .settings
+  s = lfo .settings
 
   abbrev q : Curve
-  q = slotCurve (s .kind) (slot .lfo)
+  q = slotCurve (s .kind) lfo
 
   abbrev b : Block
-  b = slotPrepared slot t frames .block
+  b = preparedOf s (lfo .clock) t frames .block
 
   block-in : BlockIn b
-  block-in = frame.block-in s (slot .lfo .clock) t f frames 0 I J (i .clock-in) short within (omega arith)
+  block-in = blocks.block-in lfo t f frames i I J short within
 
   abbrev anchor : (from j : ℕ) (v : Voice) → Anchor
   anchor from j v = voiceAfter (s .kind) (s .mode) (s .direction) q b from j v .anchor
@@ -45,17 +48,19 @@ module _ (slot : Slot) (t : Transport) (f frames : ℕ)
   placed : (from j : ℕ) (v : Voice) → AnchorIn (f + from) (v .anchor) → from + j ≤ frames → Placed from j v
   unfolding placeOf countAt
   placed from j v a h =
-      let within-frames = after-in s q b block-in f from j v a in (
-        frame.frame-in s (slot .lfo .clock) t f frames (from + j) I J (i .clock-in) short within h (s .mode) (anchor from j v) within-frames (s .direction) (q .from) (i .loop-in (s .kind)),
-        frame.frame-narrowed s (slot .lfo .clock) t f frames (from + j) I J (i .clock-in) short within h (s .mode) (anchor from j v) within-frames (s .direction) (q .from) (i .loop-in (s .kind)),
+      let within-frames = after-in s q b block-in f from j v a in
+      let loop = loop-in lfo i (s .kind) in (
+        frame.frame-in s (lfo .clock) t f frames (from + j) I J (i .clock-in) short within h (s .mode) (anchor from j v) within-frames (s .direction) (q .from) loop,
+        frame.frame-narrowed s (lfo .clock) t f frames (from + j) I J (i .clock-in) short within h (s .mode) (anchor from j v) within-frames (s .direction) (q .from) loop,
       )
 
-  -- before the restart, if any
-  pub first-placed : (j : ℕ) → j ≤ frames → Placed 0 j (begun s q b frames (slot .voice))
-  first-placed j h = placed 0 j (begun s q b frames (slot .voice)) (begun-in-block s q b block-in f frames (slot .voice) (i .anchor-in) (omega arith)) (omega arith)
+  module _ (v : Voice) (a : AnchorIn f (v .anchor)) where
+    -- before the restart, if any
+    pub first-placed : (j : ℕ) → j ≤ frames → Placed 0 j (begun s q b frames v)
+    first-placed j h = placed 0 j (begun s q b frames v) (begun-in-block s q b block-in f frames v a (omega arith)) (omega arith)
 
-  -- and from it on
-  pub later-placed : (at j : ℕ) → min at frames + j ≤ frames → Placed (min at frames) j (restarted s q b frames (slot .voice) (min at frames))
-  later-placed at j h =
-      placed (min at frames) j (restarted s q b frames (slot .voice) (min at frames))
-      (restarted-in-block s q b block-in f frames (slot .voice) (min at frames) (min-le-right at frames) short within (i .anchor-in)) h
+    -- and from it on
+    pub later-placed : (at j : ℕ) → min at frames + j ≤ frames → Placed (min at frames) j (restarted s q b frames v (min at frames))
+    later-placed at j h =
+        placed (min at frames) j (restarted s q b frames v (min at frames))
+        (restarted-in-block s q b block-in f frames v (min at frames) (min-le-right at frames) short within a) h

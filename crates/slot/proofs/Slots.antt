@@ -1,45 +1,27 @@
 -- What holds of a new slot, and of stored settings. Assumes nothing.
-use mathlib.Core.Path.{_≡_}
-use mathlib.Core.Bool.{Bool, true, false}
+use mathlib.Core.Path.{sym, subst}
+use mathlib.Core.Bool.{Bool, true, false, false≢true}
 use Prim.Native.Nat.{ℕ}
-use native.Mathlib.Omega.{arith}
 use lib.Dec.{T}
-use lib.Ieee.{Float, le, ofBits}
+use lib.ListN.{replicate, getD-replicate, length-replicate}
+use lib.Ieee.{Float, nan, le, ofBits}
+use lib.Ieee.Scale.{finite}
 use Rattle.floatlaws.specs.Numbers.{f32-0, f32-360}
 use Rattle.floatlaws.specs.Extrema.{clampOf}
 use Rattle.floatlaws.proofs.NoNan.{Number}
 use Rattle.floatlaws.proofs.Order.{le-right}
 use Rattle.floatlaws.proofs.Extrema.{clamp-bounds}
-use Rattle.settings.specs.declared.choices.LfoType.{LfoType}
+use Rattle.points.specs.Modulation.{FiniteBuses}
 use Rattle.settings.specs.declared.record.Settings.{Settings}
 use Rattle.settings.specs.declared.times.Rate.{Rate}
 use Rattle.settings.specs.declared.times.Rate.the-variants as Rate
 use Rattle.settings.specs.Times.{topHz, clampedRate}
 use Rattle.settings.specs.Records.{clampedSettings}
-use Rattle.shape.specs.Shapes.{defaultShape}
-use Rattle.reach.specs.Bounds.{RateNumber, SettingsIn}
+use Rattle.reach.specs.Bounds.{AnchorIn, RateNumber, SettingsIn}
 use Rattle.reach.proofs.Reach.{new-clock-in, new-anchor-in}
-use Rattle.voice.specs.declared.begun.MadeFor.the-variants as MadeFor
 use Rattle.voice.specs.Voice.{newVoice}
-use Rattle.slot.specs.Slot.{newSlot, SlotIn}
-use Rattle.slot.proofs.Curves.{default-lengths, new-searchable, new-loop}
-
-false-true : false ≡ true → ⊥
-false-true e = let z : _≡_ {A = ℕ} 0 1 = cc in omega arith
-
-pub new-in : (s : Settings) (seed : ℕ) → SlotIn 0 (newSlot s seed)
-unfolding newVoice defaultShape
-new-in s seed =
-    record {
-      shape-short = default-lengths .0;
-      path-short = default-lengths .1;
-      loopback-in = tt;
-      searchable = new-searchable;
-      loop-in = new-loop;
-      clock-in = new-clock-in;
-      anchor-in = new-anchor-in;
-      cache-for = λ (kind : LfoType) (fresh : false ≡ true) (made : MadeFor.None ≡ MadeFor.For kind). absurd (false-true fresh);
-    }
+use Rattle.slot.specs.Slot.{newLfo, newSlot, StoredIn, LfoIn, CacheIn}
+use Rattle.slot.proofs.Curves.{default-shape, default-path}
 
 -- ---- settings with no NaN stay so as they are stored
 
@@ -64,3 +46,33 @@ pub stored-in : (s : Settings) → SettingsIn s → SettingsIn (clampedSettings 
 unfolding clampedSettings
 stored-in s i =
     record { rate-number = rate-number (s .rate) (i .rate-number); phase-number = clamped-number (s .phase) f32-360 (i .phase-number) turn; grid-in = i .grid-in }
+
+pub clamped-in : (s : Settings) → StoredIn s → StoredIn (clampedSettings s)
+unfolding clampedSettings
+clamped-in s i grid = stored-in s (i grid)
+
+-- ---- a new slot: its page, its voice and its cache
+
+zero-finite : T (finite f32-0)
+unfolding ofBits
+zero-finite = tt
+
+zeros-finite : FiniteBuses (replicate 16 f32-0)
+zeros-finite k h = subst (λ (x : Float). T (finite x)) (sym (getD-replicate 16 k f32-0 nan h)) zero-finite
+
+pub new-lfo-in : (s : Settings) → StoredIn s → LfoIn 0 (newLfo s)
+new-lfo-in s i =
+    record {
+      settings-in = clamped-in s i;
+      shape-in = default-shape;
+      path-in = default-path;
+      buses-in = record { long = length-replicate 16 f32-0; finite-all = zeros-finite };
+      clock-in = new-clock-in;
+    }
+
+pub new-voice-in : (seed : ℕ) → AnchorIn 0 (newVoice seed .anchor)
+unfolding newVoice
+new-voice-in seed = new-anchor-in
+
+pub new-cache-in : (s : Settings) (seed : ℕ) → CacheIn (newSlot s seed)
+new-cache-in s seed kind fresh made = absurd (false≢true fresh)

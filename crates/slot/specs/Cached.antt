@@ -10,7 +10,7 @@ use Rattle.voice.specs.declared.begun.MadeFor.{MadeFor}
 use Rattle.voice.specs.Source.{isMadeFor}
 use Rattle.voice.specs.Curve.{KeptFor, voidKept}
 use Rattle.slot.specs.declared.cache.Cache.{Cache}
-use Rattle.slot.specs.Moved.{zeroLists, listsOf, curveOf}
+use Rattle.slot.specs.Moved.{zeroLists, listsOf, movedCurve}
 
 abbrev pub newCache : Cache
 newCache = record { lists = zeroLists; kept = voidKept; fresh = false }
@@ -29,4 +29,4 @@ currentOf kind made shape path buses cache = cond (isCurrent (cache .fresh) made
 -- it is that of a type: its lists are, and its kept segments belong to them
 pub record CacheFor (kind : LfoType) (shape : Shape) (path : Path) (buses : List Float) (cache : Cache) : Type 0 where
   pub lists-are : cache .lists ≡ listsOf kind shape path buses
-  pub kept-for : KeptFor kind (curveOf kind shape path buses) (cache .kept)
+  pub kept-for : KeptFor kind (movedCurve kind shape path buses) (cache .kept)

@@ -1,16 +1,14 @@
 -- The points as frames read them, moved by the buses, and the curve that they make. Assumes nothing.
-use Prim.Native.Nat.{ℕ, suc, _<_}
+use Prim.Native.Nat.{ℕ, _<_}
 use mathlib.Core.Bool.{false, cond}
 use mathlib.Core.List.{List}
 use lib.ListN.{getD, replicate}
 use lib.Ieee.{Float, nan}
 use Rattle.floatlaws.specs.Numbers.{f32-0}
-use Rattle.points.specs.Arrays.{Ascends}
 use Rattle.shape.specs.declared.Loopback.{Loopback}
 use Rattle.shape.specs.declared.Loopback.the-variants as Loopback
 use Rattle.shape.specs.declared.Shape.{Shape}
 use Rattle.shape.specs.Shapes.{modulatedOf, curvesOf}
-use Rattle.path_segments.specs.Times.{segmentsOf}
 use Rattle.path.specs.declared.Path.{Path}
 use Rattle.path.specs.Paths.{modulatedPath, bendsOf}
 use Rattle.position.specs.declared.place.LoopPoint.{LoopPoint}
@@ -67,14 +65,5 @@ abbrev pub curveWith : LfoType → Shape → Path → Lists → Curve
 curveWith kind shape path l =
     curveBy (l .xs) (l .ys) (l .es) (l .steps) (pointsOf kind (shape .len) (path .len)) (path .times) (path .closed) (loopOf kind (shape .loopback) (l .xs))
 
-unfoldable pub curveOf : LfoType → Shape → Path → List Float → Curve
-curveOf kind shape path buses = curveWith kind shape path (listsOf kind shape path buses)
-
--- ---- what the laws speak of
-
--- what a search asks of the curves
-abbrev pub ShapeUp : Shape → List Float → Type 0
-ShapeUp shape buses = Ascends (modulatedOf (shape .points) (shape .len) buses .xs) (shape .len)
-
-abbrev pub PathUp : Path → Type 0
-PathUp path = Ascends (path .times) (suc (segmentsOf (path .len) (path .closed)))
+unfoldable pub movedCurve : LfoType → Shape → Path → List Float → Curve
+movedCurve kind shape path buses = curveWith kind shape path (listsOf kind shape path buses)

@@ -2,7 +2,7 @@
 // one function, since a slot that is handed on is copied.
 //
 // What a slot plays depends on its `lfo` and its `voice` alone. The `cache` keeps what frames read, the points as moved by the buses, and the
-// segments last found, from one block to the next: `SlotIn` of specs/Slot.antt says when they belong to the rest.
+// segments last found, from one block to the next: `CacheIn` of specs/Slot.antt says when they belong to the rest.
 mod cache;
 mod moved;
 mod playing;
@@ -20,7 +20,8 @@ use points::POINT_BUSES;
 use settings::Settings;
 use shape::Shape;
 use voice::Voice;
-ghost use Rattle.slot.specs.Slot.{Makes};
+ghost use mathlib.Core.Path.{_≡_};
+ghost use Rattle.slot.specs.Slot.{newSlot};
 
 // An LFO's settings, curves, bus values and free clock.
 pub struct Lfo {
@@ -40,7 +41,7 @@ pub struct Slot {
 impl Slot {
     // A slot with these settings, each number in its range, the init shape and path, and a voice whose random values come from `seed`.
     pub fn new(settings: Settings, seed: u64) -> Self
-        ensures { λ r. ⌜ Makes settings seed r ⌝ }
+        ensures { λ r. ⌜ r ≡ newSlot settings seed ⌝ }
     {
         let stored = settings.clamped();
         let shape = Shape::default();

@@ -2,18 +2,18 @@
 use mathlib.Core.Path.{refl}
 use native.Mathlib.Omega.{arith}
 use borrow.Author.Needs.{needs}
-use Rattle.player.specs.Readings.{readingAnswer}
+use Rattle.player.specs.Readings.{phaseValueAnswer}
 use Rattle.runner.specs.Numbers.{answerNumbers}
 use Rattle.runner.proofs.values.reading_says.Statement.{statement}
 use Rattle.runner.proofs.values.reading_says.Tie as tie
 
 returns : tie.Need-returns
-unfolding answerNumbers readingAnswer
+unfolding answerNumbers phaseValueAnswer
 returns c =
     record { long = refl; short = omega arith; numbers-are = rw (c .before .v .given .1) }
 
 returns-2 : tie.Need-returns-2
-unfolding answerNumbers readingAnswer
+unfolding answerNumbers phaseValueAnswer
 returns-2 c =
     record { long = refl; short = omega arith; numbers-are = rw (c .before .before .v2 .given .1, c .bits .ensures) }
 
