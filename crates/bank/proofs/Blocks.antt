@@ -20,7 +20,7 @@ use Rattle.voice.specs.Voice.{begunVoice, triggeredVoice}
 use Rattle.bank.specs.declared.parts.Pending.the-variants.{None, At}
 use Rattle.bank.specs.declared.stretch.Rendered.{Rendered}
 use Rattle.bank.specs.Render.{voiceAfter, outs, lastCount, Stretch, Renders}
-use Rattle.bank.specs.Parts.{begun, restarted, partsVoice, partsOuts, partsCount, Plays}
+use Rattle.bank.specs.Parts.{begun, restarted, partsVoice, partsOuts, partsCount, PlaysParts}
 use Rattle.bank.proofs.Frames.{length-outs, count-after}
 use Rattle.bank.proofs.Counts.{begun-count, triggered-count}
 
@@ -68,7 +68,7 @@ module _ (s : Settings) (q : Curve) (b : Block) where
       }
 
   module _ (v : Voice) (frames : ℕ) (x y : List Float) where
-    pub plays-through : (r : Rendered) (x′ y′ : List Float) → Renders s q b (begunVoice s b 0 v) f64-0 0 frames x y r x′ y′ → Plays s q b v None frames x y r x′ y′
+    pub plays-through : (r : Rendered) (x′ y′ : List Float) → Renders s q b (begunVoice s b 0 v) f64-0 0 frames x y r x′ y′ → PlaysParts s q b v None frames x y r x′ y′
     unfolding partsVoice partsOuts partsCount begun
     plays-through r x′ y′ h =
         record {
@@ -136,7 +136,7 @@ module _ (s : Settings) (q : Curve) (b : Block) where
           ∙ ap (λ (u : Voice). (values 0 f k before ++ values k f (frames - k) u) ++ drop frames z) starts
           ∙ ap (λ (m : ℕ). (values 0 f m before ++ values m f (frames - m) (again m)) ++ drop frames z) split
 
-      pub plays-restart : (r : Rendered) (x′ y′ : List Float) → Renders s q b (begunVoice s b k w) (a .count) k (frames - k) x₁ y₁ r x′ y′ → Plays s q b v (At at) frames x y r x′ y′
+      pub plays-restart : (r : Rendered) (x′ y′ : List Float) → Renders s q b (begunVoice s b k w) (a .count) k (frames - k) x₁ y₁ r x′ y′ → PlaysParts s q b v (At at) frames x y r x′ y′
       unfolding partsVoice partsCount begun restarted
       plays-restart r x′ y′ h =
           record {

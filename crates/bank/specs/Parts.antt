@@ -68,7 +68,7 @@ finishedOf OneShot c = le f64-1 c
 -- ---- the code's promises
 
 -- of a block: both buffers hold its values and then what they held
-pub record Plays (s : Settings) (q : Curve) (b : Block) (v : Voice) (at : Pending) (frames : ℕ) (x y : List Float) (r : Rendered) (x′ y′ : List Float) : Type 0 where
+pub record PlaysParts (s : Settings) (q : Curve) (b : Block) (v : Voice) (at : Pending) (frames : ℕ) (x y : List Float) (r : Rendered) (x′ y′ : List Float) : Type 0 where
   pub voice-is : r .voice ≡ partsVoice s q b frames v at
   pub count-is : r .count ≡ partsCount s q b frames v at
   pub x-is : x′ ≡ partsOuts s q b frames v at (λ f. f .x) ++ drop frames x

@@ -13,7 +13,7 @@ ghost use Prim.Native.Nat.{_≤_, min};
 ghost use Rattle.voice.specs.Curve.{curveBy};
 ghost use Rattle.voice.specs.Voice.{begunVoice};
 ghost use Rattle.bank.specs.Render.{Stretch, Renders};
-ghost use Rattle.bank.specs.Parts.{Plays};
+ghost use Rattle.bank.specs.Parts.{PlaysParts};
 
 // A restart asked for in a block, if any: just before this frame.
 pub enum Pending {
@@ -96,7 +96,7 @@ pub fn render_parts<'a>(
     y: &mut [f32],
 ) -> Rendered
     requires { ⌜ Stretch s (curveBy (now xs) (now ys) (now es) (now steps) n (now times) closed loopback) block v kept 0 frames (now x) (now y) ⌝ }
-    ensures { λ r. ⌜ Plays s (curveBy (now (xs .entry)) (now (ys .entry)) (now (es .entry)) (now (steps .entry)) n (now (times .entry)) closed loopback) block v at frames (now (x .entry)) (now (y .entry)) r (now (x .exit)) (now (y .exit)) ⌝ }
+    ensures { λ r. ⌜ PlaysParts s (curveBy (now (xs .entry)) (now (ys .entry)) (now (es .entry)) (now (steps .entry)) n (now (times .entry)) closed loopback) block v at frames (now (x .entry)) (now (y .entry)) r (now (x .exit)) (now (y .exit)) ⌝ }
 {
     match at {
         Pending::None => begin_stretch(

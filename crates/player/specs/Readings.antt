@@ -6,13 +6,13 @@ use Rattle.questions.specs.Answers.{Answer, refusal, success, answerWith}
 use Rattle.calls.specs.State.{State}
 use Rattle.calls.specs.Blocks.{phaseAt}
 use Rattle.calls.specs.Calls.{phase, answer, byTransport}
-use Rattle.player.specs.declared.PhaseValue.{PhaseValue}
-use Rattle.player.specs.declared.PhaseValue.the-variants as PhaseValue
+use Rattle.player.specs.declared.PhaseResult.{PhaseResult}
+use Rattle.player.specs.declared.PhaseResult.the-variants as PhaseResult
 
 -- the number and the value of each case
-unfoldable pub phaseValueAnswer : PhaseValue → Answer
-phaseValueAnswer (PhaseValue.Refused n) = refusal n
-phaseValueAnswer (PhaseValue.At x) = success (x ∷ [])
+unfoldable pub phaseResultAnswer : PhaseResult → Answer
+phaseResultAnswer (PhaseResult.Refused n) = refusal n
+phaseResultAnswer (PhaseResult.At x) = success (x ∷ [])
 
 -- the number of the question that refuses it, or 0 and the phase
 unfoldable pub phaseAnswer : State → TransportCodes → Answer

@@ -41,7 +41,7 @@ pub struct Played {
 }
 
 // The number of the question that refused a read of the phase, or the phase.
-pub enum PhaseValue {
+pub enum PhaseResult {
     Refused(u8),
     At(f32),
 }

@@ -1,23 +1,23 @@
 // Reading the phase.
-use super::PhaseValue;
+use super::PhaseResult;
 use super::Player;
 use codes::TransportCodes;
 use settings::Transport;
 use settings::TransportCode;
 ghost use mathlib.Core.Path.{_≡_};
 ghost use Rattle.player.specs.Player.{stateOf};
-ghost use Rattle.player.specs.Readings.{phaseValueAnswer, phaseAnswer};
+ghost use Rattle.player.specs.Readings.{phaseResultAnswer, phaseAnswer};
 
 // Where the voice is in its cycle, 0 up to 1, at the next sample to play; `t` is the transport at that sample. No player changes.
-pub fn phase(p: Player, t: TransportCodes) -> PhaseValue
-    ensures { λ r. ⌜ phaseValueAnswer r ≡ phaseAnswer (stateOf p) t ⌝ }
+pub fn phase(p: Player, t: TransportCodes) -> PhaseResult
+    ensures { λ r. ⌜ phaseResultAnswer r ≡ phaseAnswer (stateOf p) t ⌝ }
 {
     let answer = questions::phase_answer(t);
     if answer != 0 {
-        return PhaseValue::Refused(answer);
+        return PhaseResult::Refused(answer);
     }
     let TransportCode::Known(transport) = Transport::from_codes(t) else {
-        return PhaseValue::Refused(answer);
+        return PhaseResult::Refused(answer);
     };
     let slot = p.slot;
     let lfo = slot.lfo;
@@ -25,5 +25,5 @@ pub fn phase(p: Player, t: TransportCodes) -> PhaseValue
     let clock = lfo.clock;
     let voice = slot.voice;
     let anchor = voice.anchor;
-    PhaseValue::At(clock::phase(settings, clock, anchor, transport))
+    PhaseResult::At(clock::phase(settings, clock, anchor, transport))
 }

@@ -1,7 +1,7 @@
 -- What a trace's calls wrote is what the definitions of crate `restart` say of its list of calls. Assumes nothing.
 use Prim.Native.Nat.{ℕ}
 use mathlib.Core.Path.{_≡_, refl, sym, ap, _∙_}
-use mathlib.Core.Bool.{Bool, true, false, cond}
+use mathlib.Core.Bool.{Bool, true, false, cond, false≢true}
 use mathlib.Core.List.{List, [], _∷_}
 use lib.Dec.{eqb}
 use lib.ListN.{take}
@@ -17,7 +17,7 @@ use Rattle.player.specs.declared.Played.{Played}
 use Rattle.player.specs.Player.{stateOf}
 use Rattle.player.specs.Promises.{Plays}
 use Rattle.restart.specs.Heard.{Side, x-side, y-side, framesUpTo, blocksUpTo, read, heard, window}
-use Rattle.reached.specs.Traces.{Sets, Trace, none, sets, reads, plays}
+use Rattle.reached.specs.Traces.{Trace, none, sets, reads, plays}
 use Rattle.players_rule.specs.Written.{bufferOf, written, transports}
 
 -- what one block left in a buffer
@@ -29,20 +29,20 @@ read-is y-side p t n restart x y r x′ y′ m = ap (take n) (m .y-is)
 
 -- ---- a call that sets something ends what is heard where it is accepted
 
-set-ends : {A : Type 0} (c : Call) (later : List A) (f : TransportCodes → ℕ → RestartCodes → List Float → List Float → List A) → Sets c
+set-ends : {A : Type 0} (c : Call) (later : List A) (f : TransportCodes → ℕ → RestartCodes → List Float → List Float → List A) → isEdit c ≡ true
     → byBlock (cond (isEdit c) [] later) c f ≡ []
 set-ends (settings c) later f e = refl
 set-ends (shape c) later f e = refl
 set-ends (path c) later f e = refl
 set-ends (bus k z) later f e = refl
-set-ends (phase t) later f e = absurd e
-set-ends (block t n restart x y) later f e = absurd e
+set-ends (phase t) later f e = absurd (false≢true e)
+set-ends (block t n restart x y) later f e = absurd (false≢true e)
 
-set-heard : (side : Side) (s : State) (c : Call) (cs : List Call) → Sets c → heard side s (c ∷ cs) ≡ cond (accepts s c) [] (heard side (step s c) cs)
+set-heard : (side : Side) (s : State) (c : Call) (cs : List Call) → isEdit c ≡ true → heard side s (c ∷ cs) ≡ cond (accepts s c) [] (heard side (step s c) cs)
 unfolding heard
 set-heard side s c cs e = ap (λ (l : List Float). cond (accepts s c) l (heard side (step s c) cs)) (set-ends c _ _ e)
 
-set-window : (s : State) (c : Call) (cs : List Call) → Sets c → window s (c ∷ cs) ≡ cond (accepts s c) [] (window (step s c) cs)
+set-window : (s : State) (c : Call) (cs : List Call) → isEdit c ≡ true → window s (c ∷ cs) ≡ cond (accepts s c) [] (window (step s c) cs)
 unfolding window
 set-window s c cs e = ap (λ (l : List TransportCodes). cond (accepts s c) l (window (step s c) cs)) (set-ends c _ _ e)
 

@@ -13,7 +13,7 @@ use Rattle.curves.specs.Given.{isYes}
 use Rattle.codes.specs.declared.RestartCodes.{RestartCodes}
 use Rattle.calls.specs.State.{State}
 use Rattle.calls.specs.Blocks.{pendingOf}
-use Rattle.calls.specs.Calls.{Call, settings, shape, path, bus, phase, block, answer, accepts, made, step}
+use Rattle.calls.specs.Calls.{Call, settings, shape, path, bus, phase, block, answer, accepts, made, step, byBlock}
 use Rattle.player.specs.declared.Player.{Player}
 use Rattle.player.specs.Player.{stateOf}
 use Rattle.reached.specs.Traces.{History}
@@ -41,12 +41,7 @@ pub record Reached (p : Player) : Type 0 where
 
 -- "A restart is one that an accepted block carries"
 abbrev pub carries : Call → Bool
-carries (settings c) = false
-carries (shape c) = false
-carries (path c) = false
-carries (bus k value) = false
-carries (phase t) = false
-carries (block t frames restart x y) = isYes (restart .code)
+carries c = byBlock false c λ t frames restart x y. isYes (restart .code)
 
 -- one of a list of calls restarts the player
 unfoldable pub restartIn : State → List Call → Bool

@@ -4,12 +4,12 @@ use super::writing::malformed;
 use evaluate::PathResult;
 use evaluate::ShapeResult;
 use fields::Place;
-use player::PhaseValue;
+use player::PhaseResult;
 use player::Player;
 ghost use mathlib.Core.Path.{_≡_};
 ghost use Rattle.evaluate.specs.Values.{shapeResultAnswer, pathResultAnswer};
 ghost use Rattle.player.specs.Player.{Valid};
-ghost use Rattle.player.specs.Readings.{phaseValueAnswer};
+ghost use Rattle.player.specs.Readings.{phaseResultAnswer};
 ghost use Rattle.runner.specs.Asked.{phaseCall, shapeAtCall, pathAtCall};
 ghost use Rattle.runner.specs.Promises.{unchangedBy, Says, RepliesTo};
 
@@ -66,15 +66,15 @@ fn path_says(v: PathResult) -> Said
 }
 
 // The answer's number, and where it is 0 the phase's bits.
-fn reading_says(v: PhaseValue) -> Said
-    ensures { λ r. ⌜ Says (phaseValueAnswer v) r ⌝ }
+fn phase_says(v: PhaseResult) -> Said
+    ensures { λ r. ⌜ Says (phaseResultAnswer v) r ⌝ }
 {
     match v {
-        PhaseValue::Refused(n) => {
+        PhaseResult::Refused(n) => {
             let numbers = [n as u64, 0, 0];
             Said { numbers, count: 1 }
         }
-        PhaseValue::At(y) => {
+        PhaseResult::At(y) => {
             let numbers = [0, replies::bits(y), 0];
             Said { numbers, count: 2 }
         }
@@ -91,7 +91,7 @@ pub fn phase_reply(run: &[u8], from: Place, p: Player) -> Reply
     if next.fault == 0 {
         let codes = t.value;
         let v = player::phase(p, codes);
-        return unchanged(reading_says(v), next.at, p);
+        return unchanged(phase_says(v), next.at, p);
     }
     malformed(p)
 }

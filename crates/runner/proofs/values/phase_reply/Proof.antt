@@ -14,7 +14,7 @@ returns c =
     let i = c .before .before .before .before in
     let n = i .before .before .before in
     let s = n .before .before in
-    let said = rw (c .before .before .phase .ensures) at (c .before .reading-says .ensures) in
+    let said = rw (c .before .before .phase .ensures) at (c .before .phase-says .ensures) in
     let r = phase-call (now (s .args .run)) (n .read-transport .ensures) in
     rw (c .unchanged .ensures) (replies-read (now (s .args .run)) (s .args .p) r (i .if1 .taken) _ refl refl (says-answers said refl (phase-stays _ _) (s .pre) _))
 
