@@ -62,7 +62,7 @@ module _ (p : Player) (played : ℕ) (t : Transport) (frames : ℕ) (x y : List 
 
   -- what they give together, with any cache that belongs to page and voice
   module _ (at : Pending) (k : Prepared) (r : Rendered) (done : Bool) (x′ y′ : List Float)
-      (e : k ≡ ready) (plays : bank.Plays s q (ready .block) (p .slot .voice) at frames x y r x′ y′) (ends : done ≡ bank.finishedOf (s .mode) (r .count)) where
+      (e : k ≡ ready) (plays : bank.PlaysParts s q (ready .block) (p .slot .voice) at frames x y r x′ y′) (ends : done ≡ bank.finishedOf (s .mode) (r .count)) where
     abbrev pub next : Cache → Slot
     next cache = record { lfo = clockedLfo lfo (k .clock); voice = r .voice; cache = cache }
 
@@ -116,9 +116,9 @@ module _ (p : Player) (played : ℕ) (t : Transport) (frames : ℕ) (x y : List 
 
   -- what the calls give together
   module _ (at : Pending) (k : Prepared) (z : Slot) (n : ℕ) (from : LoopPoint) (r : Rendered) (done : Bool) (x′ y′ : List Float)
-      (e : k ≡ ready) (f : Found z n from) (plays : bank.Plays s (lent z n from) (k .block) (p .slot .voice) at frames x y r x′ y′)
+      (e : k ≡ ready) (f : Found z n from) (plays : bank.PlaysParts s (lent z n from) (k .block) (p .slot .voice) at frames x y r x′ y′)
       (ends : done ≡ bank.finishedOf (s .mode) (r .count)) where
-    played-by : bank.Plays s q (ready .block) (p .slot .voice) at frames x y r x′ y′
+    played-by : bank.PlaysParts s q (ready .block) (p .slot .voice) at frames x y r x′ y′
     played-by = rw (lent-is z n from f, e) at plays
 
     -- the cache after it, of the slot as it began
