@@ -11,7 +11,7 @@ use Rattle.path_segments.proofs.KeptPath.{found-holds, kept-path}
 use Rattle.path_segments.proofs.RustPath.{rust-path}
 use Rattle.path.specs.declared.PathPoint.{PathPoint}
 use Rattle.path.specs.Paths.{clampedPath, legsOf, pathOf}
-use Rattle.path.specs.Laws.{PathTimesRule, PathSearchRule}
+use Rattle.path.specs.Laws.{PathTimesRule, PathSearch}
 use Rattle.path.proofs.PathLegs.{legs-in}
 
 module _ (points : List PathPoint) (n : ℕ) (closed : Bool) where
@@ -25,12 +25,11 @@ pub path-times-rule : PathTimesRule
 unfolding pathOf
 path-times-rule points n closed = let t = times points n closed in record { ascend = t .ascend; start = t .start; end = t .end }
 
-pub path-search-rule : PathSearchRule
+pub path-search : PathSearch
 unfolding pathOf
-path-search-rule points n closed xs ys bends =
-    let t = times points n closed in
-    record {
-      holds = found-holds xs ys bends _ (min n 64) closed (t .ascend);
-      kept = kept-path xs ys bends _ (min n 64) closed (t .ascend);
-      rust = rust-path xs ys bends _ (min n 64) closed (t .ascend) (t .start);
-    }
+path-search points n closed xs ys bends =
+    let t = times points n closed in (
+      found-holds xs ys bends _ (min n 64) closed (t .ascend),
+      kept-path xs ys bends _ (min n 64) closed (t .ascend),
+      rust-path xs ys bends _ (min n 64) closed (t .ascend) (t .start),
+    )

@@ -6,13 +6,12 @@ use mathlib.Core.List.{List}
 use lib.Dec.{T}
 use lib.ListN.{getD}
 use lib.Ieee.{Float, nan, isNan}
-use lib.Ieee.Scale.{finite}
 use Rattle.floatlaws.specs.Numbers.{Between, f32-0, f32-1, f32-minus1}
 use Rattle.points.specs.Arrays.{Ascends}
 use Rattle.points.specs.Modulation.{movedOf}
 use Rattle.leg.specs.Root.{LegBetween}
 use Rattle.path_segments.specs.Times.{segmentsOf, LegsIn}
-use Rattle.path_segments.specs.Segments.{pathContains, pathSegment, rustPathSegment}
+use Rattle.path_segments.specs.Laws.{PathHolds, PathKept, PathRust}
 use Rattle.path.specs.declared.PathPoint.{PathPoint}
 use Rattle.path.specs.declared.Path.{Path}
 use Rattle.path.specs.Paths.{noPathPoint, clampedPathPoint, PointOnPaper, legsOf, pathLegs, pathOf, modulatedPath}
@@ -69,12 +68,8 @@ pub record PathTimes (p : Path) : Type 0 where
 abbrev pub PathTimesRule : Type 0
 PathTimesRule = (points : List PathPoint) (n : ℕ) (closed : Bool) → PathTimes (pathOf points n closed)
 
--- With its points anywhere, as the buses move them. "It holds lo ≤ x < hi": the segment found for the time t holds t. A kept one that holds t is the one found for t, and it is the one that the Rust finds.
-pub record PathSearched (p : Path) (xs ys bends : List Float) : Type 0 where
-  pub holds : (t : Float) → T (finite t) → T (pathContains (pathSegment xs ys bends (p .times) (p .len) (p .closed) t) t)
-  pub kept : (q t : Float) → T (pathContains (pathSegment xs ys bends (p .times) (p .len) (p .closed) q) t)
-      → pathSegment xs ys bends (p .times) (p .len) (p .closed) q ≡ pathSegment xs ys bends (p .times) (p .len) (p .closed) t
-  pub rust : (t : Float) → T (not (isNan t)) → pathSegment xs ys bends (p .times) (p .len) (p .closed) t ≡ rustPathSegment xs ys bends (p .times) (p .len) (p .closed) t
-
-abbrev pub PathSearchRule : Type 0
-PathSearchRule = (points : List PathPoint) (n : ℕ) (closed : Bool) (xs ys bends : List Float) → PathSearched (pathOf points n closed) xs ys bends
+-- With its points anywhere, as the buses move them: "It holds lo ≤ x < hi"; a kept segment that holds the position is the one that a search finds there; and a search finds what the Rust's does.
+abbrev pub PathSearch : Type 0
+PathSearch =
+    (points : List PathPoint) (n : ℕ) (closed : Bool) (xs ys bends : List Float)
+    → let p = pathOf points n closed in PathHolds xs ys bends (p .times) (p .len) closed × PathKept xs ys bends (p .times) (p .len) closed × PathRust xs ys bends (p .times) (p .len) closed

@@ -19,7 +19,7 @@ use Rattle.points.proofs.Bounds.{lower, upper, everywhere, place-holds, holds-p
 use Rattle.path_segments.specs.declared.PathSegment.{PathSegment}
 use Rattle.path_segments.specs.Times.{segmentsOf}
 use Rattle.path_segments.specs.Segments.{pathContains, legSegment, pathSegmentAt, pathSegment}
-use Rattle.path_segments.specs.Laws.{PathHolds, PathKept, PathVoid}
+use Rattle.path_segments.specs.Laws.{OfTimes, PathHolds, PathKept, PathVoid}
 use Rattle.path_segments.proofs.Cases.{no-points, no-segment, at-place}
 
 module _ (xs ys bends times : List Float) (len : ℕ) (closed : Bool) where
@@ -60,7 +60,7 @@ module _ (xs ys bends times : List Float) (len : ℕ) (closed : Bool) where
 
 -- ---- of a search
 
-pub found-holds : PathHolds
+pub found-holds : OfTimes PathHolds
 found-holds xs ys bends times len closed up t f = go (ℕ-discrete len 0) (ℕ-discrete (segmentsOf len closed) 0)
   where
     go : Dec (len ≡ 0) → Dec (segmentsOf len closed ≡ 0) → T (pathContains (pathSegment xs ys bends times len closed t) t)
@@ -70,7 +70,7 @@ found-holds xs ys bends times len closed up t f = go (ℕ-discrete len 0) (ℕ-d
         let n = segmentsOf len closed in
         rw (at-place xs ys bends times len closed t n some refl (partitionPoint times (suc n) t) legs refl) (place-found xs ys bends times len closed up t f)
 
-pub kept-path : PathKept
+pub kept-path : OfTimes PathKept
 kept-path xs ys bends times len closed up q p holds = go (ℕ-discrete len 0) (ℕ-discrete (segmentsOf len closed) 0)
   where
     go : Dec (len ≡ 0) → Dec (segmentsOf len closed ≡ 0) → pathSegment xs ys bends times len closed q ≡ pathSegment xs ys bends times len closed p

@@ -18,7 +18,7 @@ use Rattle.listlaws.proofs.LastWhere.{back, later}
 use Rattle.points.proofs.Partition.{partition-le, partition-at, partition-after, partition-first, partition-later}
 use Rattle.path_segments.specs.Times.{segmentsOf}
 use Rattle.path_segments.specs.Segments.{pathSegmentAt, pathSegment, rustPathSegment}
-use Rattle.path_segments.specs.Laws.{PathRust}
+use Rattle.path_segments.specs.Laws.{OfTimesFrom0, PathRust}
 use Rattle.path_segments.proofs.Cases.{no-points, no-segment, at-place}
 
 module _ (xs ys bends times : List Float) (len : ℕ) (closed : Bool) where
@@ -58,7 +58,7 @@ module _ (xs ys bends times : List Float) (len : ℕ) (closed : Bool) where
                 back k,
               )
 
-pub rust-path : PathRust
+pub rust-path : OfTimesFrom0 PathRust
 unfolding rustPathSegment
 rust-path xs ys bends times len closed up start t number = go (ℕ-discrete len 0) (ℕ-discrete (segmentsOf len closed) 0)
   where

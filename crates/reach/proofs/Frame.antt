@@ -1,6 +1,6 @@
 -- The laws for every count that a player reaches: in a block that `prepare` made of settings and a transport in range, with f frames played before it, the count
 -- of each of its frames, swung or not, is at most 2 ^ 50 in size, and its position lies from 0 to 1, as an f32 too, in every mode, direction and swing. Assumes nothing.
-use Prim.Native.Nat.{ℕ, _+_, _-_, _^_, _≤_}
+use Prim.Native.Nat.{ℕ, _+_, _^_, _≤_}
 use native.Mathlib.Nat.{le-trans, le-refl, add-le-add}
 use native.Mathlib.Omega.{arith}
 use lib.Dec.{T, lit≤}

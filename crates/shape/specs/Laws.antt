@@ -6,13 +6,12 @@ use mathlib.Core.List.{List, Perm}
 use lib.Dec.{T}
 use lib.ListN.{getD}
 use lib.Ieee.{Float, nan, le, isNan}
-use lib.Ieee.Scale.{finite}
 use Rattle.floatlaws.specs.Numbers.{Between, f32-0, f32-1}
 use Rattle.listlaws.specs.Tables.{select}
 use Rattle.points.specs.declared.Coordinates.{Coordinates}
 use Rattle.points.specs.Arrays.{Ascends}
 use Rattle.points.specs.Modulation.{FiniteBuses}
-use Rattle.shape_segments.specs.Segments.{containsOf, drawnSegment, rustSegment}
+use Rattle.shape_segments.specs.Laws.{SegmentHolds, SegmentKept, SegmentRust}
 use Rattle.shape.specs.declared.sorting.Point.{Point}
 use Rattle.shape.specs.Points.{noPoint, clampedPoint, sortedPoints, sortedArray, clampedPoints, sameX, Numbers, InRange, FinitePoint}
 use Rattle.shape.specs.Shapes.{coordinatesOf, modulatedOf, NumbersX, NumbersY}
@@ -67,11 +66,7 @@ ShapePlaced = EachShape λ at n. (i : ℕ) → i < n → Between f32-0 (getD (at
 abbrev pub ShapeAscends : Type 0
 ShapeAscends = EachShape λ at n. Ascends (at .xs) n
 
--- "It holds lo ≤ x < hi": the segment found for x holds x. A kept one that holds x is the one found for x, and it is the one that the Rust finds.
-pub record ShapeSearched (xs ys es : List Float) (steps : List Bool) (n : ℕ) : Type 0 where
-  pub holds : (x : Float) → T (finite x) → T (containsOf (drawnSegment xs ys es steps n x) x)
-  pub kept : (q x : Float) → T (containsOf (drawnSegment xs ys es steps n q) x) → drawnSegment xs ys es steps n q ≡ drawnSegment xs ys es steps n x
-  pub rust : (x : Float) → T (not (isNan x)) → drawnSegment xs ys es steps n x ≡ rustSegment xs ys es steps n x
-
-abbrev pub ShapeSearchRule : Type 0
-ShapeSearchRule = EachShape λ at n. (ys es : List Float) (steps : List Bool) → ShapeSearched (at .xs) ys es steps n
+-- "It holds lo ≤ x < hi"; a kept segment that holds the position is the one that a search finds there; and a search finds what the Rust's does
+abbrev pub ShapeSearch : Type 0
+ShapeSearch =
+    EachShape λ at n. (ys es : List Float) (steps : List Bool) → SegmentHolds (at .xs) ys es steps n × SegmentKept (at .xs) ys es steps n × SegmentRust (at .xs) ys es steps n

@@ -19,7 +19,7 @@ use Rattle.points.proofs.Partition.{partition-le}
 use Rattle.points.proofs.Bounds.{lower, upper, everywhere, place-holds, holds-place}
 use Rattle.shape_segments.specs.declared.Segment.{Segment}
 use Rattle.shape_segments.specs.Segments.{holdOf, betweenOf, containsOf, segmentAt, drawnSegment}
-use Rattle.shape_segments.specs.Laws.{SegmentHolds, SegmentKept, SegmentVoid}
+use Rattle.shape_segments.specs.Laws.{OfAscending, SegmentHolds, SegmentKept, SegmentVoid}
 use Rattle.shape_segments.proofs.Cases.{no-points, at-place}
 
 module _ (xs ys es : List Float) (steps : List Bool) (n : ℕ) where
@@ -71,14 +71,14 @@ module _ (xs ys es : List Float) (steps : List Bool) (n : ℕ) where
 
 -- ---- of a search
 
-pub found-holds : SegmentHolds
+pub found-holds : OfAscending SegmentHolds
 found-holds xs ys es steps n up x f = go (ℕ-discrete n 0)
   where
     go : Dec (n ≡ 0) → T (containsOf (drawnSegment xs ys es steps n x) x)
     go (yes none) = rw (no-points xs ys es steps n x none) (everywhere x f)
     go (no some) = rw (at-place xs ys es steps n x (partitionPoint xs n x) some refl) (place-found xs ys es steps n some up x f)
 
-pub kept-segment : SegmentKept
+pub kept-segment : OfAscending SegmentKept
 kept-segment xs ys es steps n up q p holds = go (ℕ-discrete n 0)
   where
     go : Dec (n ≡ 0) → drawnSegment xs ys es steps n q ≡ drawnSegment xs ys es steps n p

@@ -12,7 +12,7 @@ use borrow.Author.Tests.{eq-eqb, ne-eqb}
 use Rattle.floatlaws.proofs.NoNan.{Number}
 use Rattle.points.specs.Arrays.{Ascends, partitionPoint}
 use Rattle.shape_segments.specs.Segments.{segmentAt, drawnSegment, rustSegment}
-use Rattle.shape_segments.specs.Laws.{SegmentRust}
+use Rattle.shape_segments.specs.Laws.{OfAscending, SegmentRust}
 use Rattle.listlaws.proofs.LastWhere.{back, later}
 use Rattle.shape_segments.proofs.Cases.{no-points, at-place}
 use Rattle.points.proofs.Partition.{partition-le, partition-at, partition-after, partition-first, partition-later}
@@ -51,7 +51,7 @@ module _ (xs ys es : List Float) (steps : List Bool) (n : ℕ) (up : Ascends xs 
               back k,
             )
 
-pub rust-segment : SegmentRust
+pub rust-segment : OfAscending SegmentRust
 unfolding rustSegment
 rust-segment xs ys es steps n up x number = go (ℕ-discrete n 0)
   where

@@ -1,6 +1,6 @@
 -- `narrow::u64_to_f64` meets its contract: below 2 ^ 53 the `i64` that is cast is n. Assumes nothing.
 use mathlib.Core.Path.{_≡_, sym, ap, subst}
-use Prim.Native.Nat.{ℕ, _^_, _<_, _≤_}
+use Prim.Native.Nat.{ℕ, _^_, _<_}
 use native.Mathlib.Nat.{lt-of-lt-of-le, le-of-lt}
 use borrow.Author.Needs.{needs}
 use lib.Dec.{T, le→leb, lit≤}
