@@ -1,4 +1,4 @@
--- An answer's number and values tell its case, so that a promise of them is one of the enum. Assumes nothing.
+-- An answer's number and values tell the case of its result. Assumes nothing.
 use Prim.Native.Nat.{ℕ}
 use mathlib.Core.Path.{_≡_, refl, sym, ap, _∙_}
 use mathlib.Core.List.{List, [], _∷_}
@@ -8,7 +8,7 @@ use Rattle.evaluate.specs.declared.ShapeResult.{ShapeResult}
 use Rattle.evaluate.specs.declared.ShapeResult.the-variants as ShapeResult
 use Rattle.evaluate.specs.declared.PathResult.{PathResult}
 use Rattle.evaluate.specs.declared.PathResult.the-variants as PathResult
-use Rattle.evaluate.specs.Values.{shapeResultAnswer, pathResultAnswer}
+use Rattle.evaluate.specs.Values.{shapeResultAnswer, ShapeTold, pathResultAnswer, PathTold}
 
 shape-case : ℕ → List Float → ShapeResult
 shape-case n [] = ShapeResult.Refused n
@@ -19,8 +19,8 @@ unfolding shapeResultAnswer shape-case
 shape-told (ShapeResult.Refused n) = refl
 shape-told (ShapeResult.At v) = refl
 
-pub shape-injective : (r s : ShapeResult) → shapeResultAnswer r ≡ shapeResultAnswer s → r ≡ s
-shape-injective r s e = sym (shape-told r) ∙ ap (λ (a : Answer). shape-case (a .number) (a .values)) e ∙ shape-told s
+pub shape-is-told : ShapeTold
+shape-is-told r s e = sym (shape-told r) ∙ ap (λ (a : Answer). shape-case (a .number) (a .values)) e ∙ shape-told s
 
 path-case : ℕ → List Float → PathResult
 path-case n [] = PathResult.Refused n
@@ -32,5 +32,5 @@ unfolding pathResultAnswer path-case
 path-told (PathResult.Refused n) = refl
 path-told (PathResult.At x y) = refl
 
-pub path-injective : (r s : PathResult) → pathResultAnswer r ≡ pathResultAnswer s → r ≡ s
-path-injective r s e = sym (path-told r) ∙ ap (λ (a : Answer). path-case (a .number) (a .values)) e ∙ path-told s
+pub path-is-told : PathTold
+path-is-told r s e = sym (path-told r) ∙ ap (λ (a : Answer). path-case (a .number) (a .values)) e ∙ path-told s

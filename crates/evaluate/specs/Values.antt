@@ -1,5 +1,6 @@
 -- The calls that evaluate a shape, a path and the legs of a path, unmodulated, as an editor draws them. They touch no player. Assumes nothing.
 use Prim.Native.Nat.{ℕ}
+use mathlib.Core.Path.{_≡_}
 use mathlib.Core.Bool.{true, cond}
 use mathlib.Core.List.{[], _∷_}
 use lib.Dec.{eqb}
@@ -28,6 +29,10 @@ unfoldable pub shapeResultAnswer : ShapeResult → Answer
 shapeResultAnswer (ShapeResult.Refused n) = refusal n
 shapeResultAnswer (ShapeResult.At v) = success (v ∷ [])
 
+-- they tell the case, so that a promise of them is one of the result
+abbrev pub ShapeTold : Type 0
+ShapeTold = (r s : ShapeResult) → shapeResultAnswer r ≡ shapeResultAnswer s → r ≡ s
+
 unfoldable pub evaluatedShape : ShapeCodes → Float → Answer
 evaluatedShape c x = answerWith (firstNo (shapeQuestions (finite x) c)) (shapeValue (givenShape c) x ∷ [])
 
@@ -37,6 +42,9 @@ evaluatedShape c x = answerWith (firstNo (shapeQuestions (finite x) c)) (shapeVa
 unfoldable pub pathResultAnswer : PathResult → Answer
 pathResultAnswer (PathResult.Refused n) = refusal n
 pathResultAnswer (PathResult.At x y) = success (x ∷ y ∷ [])
+
+abbrev pub PathTold : Type 0
+PathTold = (r s : PathResult) → pathResultAnswer r ≡ pathResultAnswer s → r ≡ s
 
 unfoldable pub evaluatedPath : PathCodes → Float → Answer
 evaluatedPath c t =

@@ -13,7 +13,7 @@ use Rattle.listlaws.proofs.Over.{over-none, length-over, over-over}
 use Rattle.number.specs.declared.Writing.the-variants.{Next, NoRoom}
 use Rattle.number.specs.Encoded.{encoded}
 use Rattle.number.proofs.Form.{encoded-length}
-use Rattle.replies.specs.Replies.{bytesOf, bitsOf, listed, fits, Puts, Gives}
+use Rattle.replies.specs.Replies.{bytesOf, bitsOf, listed, fits, Puts, WritesAll}
 
 pub bytes-length : (l : List ℕ) → length (bytesOf l) ≤ 10 * length l
 unfolding bytesOf
@@ -147,12 +147,12 @@ module _ (x : List ℕ) (at : ℕ) (l : List ℕ) {t : Bool} {size : ℕ} (size-
   pub room : t ≡ true → at + length (bytesOf l) ≤ length x
   room e = rw size-is at (leb-true (at + size) (length x) (sym asked ∙ e))
 
-  pub written : t ≡ true → {next : ℕ} {y : List ℕ} → Puts x at l next y → Gives x at l (Next next) y
+  pub written : t ≡ true → {next : ℕ} {y : List ℕ} → Puts x at l next y → WritesAll x at l (Next next) y
   written e put =
       let yes : fits (length x) at (length (bytesOf l)) ≡ true = rw size-is at (sym asked ∙ e) in
       record { answer = rw yes (ap Next (put .next)); bytes = rw yes (put .bytes) }
 
-  pub not-written : t ≡ false → Gives x at l NoRoom x
+  pub not-written : t ≡ false → WritesAll x at l NoRoom x
   not-written e =
       let no-room : fits (length x) at (length (bytesOf l)) ≡ false = rw size-is at (sym asked ∙ e) in
       record { answer = rw no-room; bytes = rw no-room }

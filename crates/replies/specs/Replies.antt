@@ -34,8 +34,8 @@ unfoldable pub fitting : ℕ → ℕ → List (List ℕ) → List ℕ
 fitting len at [] = []
 fitting len at (l ∷ rest) = cond (fits len at (length (bytesOf l))) (bytesOf l ++ fitting len (at + length (bytesOf l)) rest) []
 
--- writing the numbers l at the place `at` of x answers r and leaves y
-pub record Gives (x : List ℕ) (at : ℕ) (l : List ℕ) (r : Writing) (y : List ℕ) : Type 0 where
+-- writing the numbers l at the place `at` of x, all of them or none, answers r and leaves y
+pub record WritesAll (x : List ℕ) (at : ℕ) (l : List ℕ) (r : Writing) (y : List ℕ) : Type 0 where
   pub answer : r ≡ cond (fits (length x) at (length (bytesOf l))) (Next (at + length (bytesOf l))) NoRoom
   pub bytes : y ≡ cond (fits (length x) at (length (bytesOf l))) (over x at (bytesOf l)) x
 

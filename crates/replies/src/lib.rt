@@ -6,7 +6,7 @@ ghost use lib.Ieee.{toBits, binary32};
 ghost use lib.ListN.{length};
 ghost use Rattle.listlaws.specs.Over.{over};
 ghost use Rattle.number.specs.Encoded.{encoded};
-ghost use Rattle.replies.specs.Replies.{bytesOf, bitsOf, listed, fits, Gives, Puts};
+ghost use Rattle.replies.specs.Replies.{bytesOf, bitsOf, listed, fits, WritesAll, Puts};
 
 // How many bytes the numbers take.
 fn numbers_size(s: &[u64]) -> usize
@@ -98,7 +98,7 @@ fn put_floats(out: &mut [u8], at: usize, s: &[f32]) -> usize
 // Writes the numbers at `at`, which may be any place. The bytes before and after them stay, and where there is no room all bytes do.
 pub fn write_numbers(out: &mut [u8], at: usize, s: &[u64]) -> Writing
     requires { ⌜ length (now s) ≤ 8192 ⌝ }
-    ensures { λ r. ⌜ Gives (now (out .entry)) at (now (s .entry)) r (now (out .exit)) ⌝ }
+    ensures { λ r. ⌜ WritesAll (now (out .entry)) at (now (s .entry)) r (now (out .exit)) ⌝ }
 {
     let size = numbers_size(s);
     if has_room(out.len(), at, size) {
@@ -128,7 +128,7 @@ fn put_lists(out: &mut [u8], at: usize, s: &[u64], x: &[f32], y: &[f32]) -> usiz
 // Writes numbers and then the bits of two lists of floats.
 pub fn write_lists(out: &mut [u8], at: usize, s: &[u64], x: &[f32], y: &[f32]) -> Writing
     requires { ⌜ (length (now s) ≤ 8192) × (length (now x) ≤ 8192) × (length (now y) ≤ 8192) ⌝ }
-    ensures { λ r. ⌜ Gives (now (out .entry)) at (listed (now (s .entry)) (now (x .entry)) (now (y .entry))) r (now (out .exit)) ⌝ }
+    ensures { λ r. ⌜ WritesAll (now (out .entry)) at (listed (now (s .entry)) (now (x .entry)) (now (y .entry))) r (now (out .exit)) ⌝ }
 {
     let size = lists_size(s, x, y);
     if has_room(out.len(), at, size) {

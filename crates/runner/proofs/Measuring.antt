@@ -19,7 +19,7 @@ use Rattle.evaluate.specs.declared.Legs.{Legs}
 use Rattle.evaluate.specs.Values.{refusedLegs, evaluatedLegs}
 use Rattle.number.specs.declared.Writing.{Writing}
 use Rattle.fields.specs.Parser.{read}
-use Rattle.replies.specs.Replies.{bitsOf, listed, Gives}
+use Rattle.replies.specs.Replies.{bitsOf, listed, WritesAll}
 use Rattle.player.specs.declared.Player.{Player}
 use Rattle.player.specs.Player.{Valid}
 use Rattle.runner.specs.Asked.{legs}
@@ -64,7 +64,7 @@ module _ (c : PathCodes) {r : Legs} (r-is : r ≡ evaluatedLegs c) where
   legs-numbers = rw (← r-is) (by-answer (r .answer) (r .count) (r .lengths) (eqb (r .answer) 0) (few .refused))
 
   pub legs-turned : (p : Player) → Valid p → {n : ℕ} → n ≡ howMany (r .answer) → (run o : List ℕ) (place at : ℕ)
-      → {v : Writing} {o′ : List ℕ} → Gives o place (listed (take n (r .answer ∷ r .count ∷ [])) (take (r .count) (r .lengths)) []) v o′
+      → {v : Writing} {o′ : List ℕ} → WritesAll o place (listed (take n (r .answer ∷ r .count ∷ [])) (take (r .count) (r .lengths)) []) v o′
       → Turns run (givenOf p run (read (legs c) at)) o place (turnOf v place at true p) o′
   unfolding givenBy numbers stateAfter
   legs-turned p valid {n} n-is run o place at g =

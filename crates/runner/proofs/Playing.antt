@@ -13,7 +13,7 @@ use Rattle.number.specs.declared.Writing.{Writing}
 use Rattle.calls.specs.Calls.{answer, buffer}
 use Rattle.calls.specs.Calls as Calls
 use Rattle.fields.specs.Parser.{read}
-use Rattle.replies.specs.Replies.{listed, Gives}
+use Rattle.replies.specs.Replies.{listed, WritesAll}
 use Rattle.player.specs.declared.Player.{Player}
 use Rattle.player.specs.declared.Played.{Played}
 use Rattle.player.specs.Player.{stateOf}
@@ -61,7 +61,7 @@ module _ {p : Player} {t : TransportCodes} {frames : ℕ} {at : RestartCodes} {x
     (w : Plays p t frames at x y r x′ y′)
     {n f : ℕ} (n-is : n ≡ howMany (r .answer)) (f-is : f ≡ flagOf (r .finished)) where
   pub block-turned : (run o : List ℕ) (place next : ℕ) → {v : Writing} {o′ : List ℕ}
-      → Gives o place (listed (take n (r .answer ∷ f ∷ [])) x′ y′) v o′
+      → WritesAll o place (listed (take n (r .answer ∷ f ∷ [])) x′ y′) v o′
       → Turns run (givenOf p run (read (call (Calls.block t frames at x y)) next)) o place (turnOf v place next true (r .player)) o′
   unfolding givenBy numbers stateAfter
   block-turned run o place next g =

@@ -17,7 +17,7 @@ use Rattle.fields.specs.Places.{onward, Reads}
 use Rattle.fields.proofs.Places.{found-value}
 use Rattle.player.specs.declared.Player.{Player}
 use Rattle.player.specs.Player.{stateOf, Valid}
-use Rattle.replies.specs.Replies.{bytesOf, fits, fitting, Gives}
+use Rattle.replies.specs.Replies.{bytesOf, fits, fitting, WritesAll}
 use Rattle.runner.specs.declared.Reply.{Reply}
 use Rattle.runner.specs.declared.Turn.{Turn}
 use Rattle.runner.specs.Asked.{Asked, asked}
@@ -72,7 +72,7 @@ module _ (run x : List ℕ) (place : ℕ) (l : List ℕ) (at : ℕ) (going : Boo
   by-fit false e =
       record { written = []; bytes = sym (over-none x place); place-is = omega arith; room = λ h. h; rest = λ most. rw e; valid = valid }
 
-  pub turned : {w : Writing} {y : List ℕ} → Gives x place l w y → Turns run following x place (turnOf w place at going p) y
+  pub turned : {w : Writing} {y : List ℕ} → WritesAll x place l w y → Turns run following x place (turnOf w place at going p) y
   turned g = rw (g .answer, g .bytes) (by-fit (fits (length x) place (length (bytesOf l))) refl)
 
 -- what is written behind what was written
