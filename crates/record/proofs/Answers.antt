@@ -1,14 +1,15 @@
 -- The questions of an item, one by one; of the item as it is kept; and of the calls that it stands for. Assumes nothing.
 --     passes, answers     the answer is 0 where each test says yes, and only there
+--     write-answer        21 comes where each of them says yes
 --     keeps               what is kept passes too
 --     settings-accepted, shape-accepted, path-accepted, bus-accepted     so do the calls
-use Prim.Native.Nat.{ℕ, _<_, min}
+use Prim.Native.Nat.{ℕ, suc, _<_, min}
 use mathlib.Core.Path.{_≡_, refl, ap, _∙_}
-use mathlib.Core.Bool.{Bool, true, _&&_}
+use mathlib.Core.Bool.{Bool, true, false, _&&_, cond}
 use mathlib.Core.List.{List, [], _∷_}
-use borrow.Author.Tests.{lt-ltb}
+use borrow.Author.Tests.{lt-ltb, ne-eqb}
 use native.Mathlib.Omega.{arith}
-use lib.Dec.{ltb}
+use lib.Dec.{eqb, ltb, leb}
 use lib.ListN.{length, getD}
 use lib.Ieee.{nan}
 use Rattle.bend.specs.Grid.{onGrid}
@@ -23,6 +24,8 @@ use Rattle.questions.proofs.Laws.{and-true, three, five}
 use Rattle.questions.proofs.Facts.{passed, every-so}
 use Rattle.record.specs.Items.{transportOf}
 use Rattle.record.specs.Kept.{keptShape, keptPath, keptLoopback, kept}
+use Rattle.record.specs.Writing.{itemBytes}
+use Rattle.record.specs.Records.{writeQuestions, writeAnswer}
 use Rattle.record.specs.Questions.{busesFinite, itemQuestions, itemAnswer}
 use Rattle.record.proofs.Tests.{both}
 use Rattle.record.proofs.KeptSettings.{settings-known, settings-finite, smooth-in, loopback-below}
@@ -92,6 +95,23 @@ answers i p =
     (goes-on 2 _ _ (both (both (both (both (p .settings-are-finite) (p .shape-finite)) (p .path-finite)) (p .buses-finite)) (p .transport-finite))
     (goes-on 4 _ _ (p .loopback-in)
     (goes-on 11 _ _ (p .on-paper) (goes-on 10 _ _ (p .on-grid) (goes-on 5 _ _ (p .coefficient-in) (goes-on 6 _ _ (p .transport-in) none-left))))))
+
+-- ---- 21, after all of them
+
+one-more : (k : ℕ) (t : Bool) (l r : List Question) (n : ℕ) → firstNo r ≡ cond (eqb (firstNo l) 0) n (firstNo l)
+    → firstNo ((suc k, t) ∷ r) ≡ cond (eqb (firstNo ((suc k, t) ∷ l)) 0) n (firstNo ((suc k, t) ∷ l))
+unfolding firstNo
+one-more k true l r n h = h
+one-more k false l r n h = rw (ne-eqb (suc k) 0 (λ e. omega arith))
+
+none-before : (t : Bool) → firstNo ((21, t) ∷ []) ≡ cond (eqb (firstNo []) 0) (cond t 0 21) (firstNo [])
+unfolding firstNo
+none-before t = refl
+
+pub write-answer : (i : ItemCodes) (room : ℕ) → writeAnswer i room ≡ cond (eqb (itemAnswer i) 0) (cond (leb (length (itemBytes (kept i))) room) 0 21) (itemAnswer i)
+unfolding writeAnswer writeQuestions itemAnswer itemQuestions
+write-answer i room =
+    one-more 0 _ _ _ _ (one-more 1 _ _ _ _ (one-more 3 _ _ _ _ (one-more 10 _ _ _ _ (one-more 9 _ _ _ _ (one-more 4 _ _ _ _ (one-more 5 _ _ _ _ (none-before (leb (length (itemBytes (kept i))) room))))))))
 
 -- ---- what the tests of a curve say of its parts, and of the curve as it is kept
 

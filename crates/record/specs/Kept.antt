@@ -21,7 +21,7 @@ use Rattle.codes.specs.declared.ItemCodes.{ItemCodes}
 use Rattle.curves.specs.Given.{givenShape, givenPath}
 use Rattle.record.specs.Items.{blankMod}
 
--- ---- settings: as handed in
+-- ---- settings and a loopback: as handed in. A field of a case that was not chosen has no bytes, and is read as 0.
 
 unfoldable pub keptRate : RateCodes → RateCodes
 keptRate c =

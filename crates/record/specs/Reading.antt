@@ -1,5 +1,5 @@
 -- What is read at a place of a record, field by field in W-203's order, each judged once its last byte is read. A field of a case that was not chosen is not there. Assumes nothing.
-use Prim.Native.Nat.{_-_}
+use Prim.Native.Nat.{ℕ, _-_}
 use mathlib.Core.Bool.{Bool, _&&_}
 use mathlib.Core.List.{List}
 use lib.Dec.{eqb}
@@ -120,7 +120,11 @@ pathPoint =
     modulation then λ y-mod.
     done (record { x = x; y = y; bend = bend; «x_mod» = x-mod; «y_mod» = y-mod })
 
--- ---- curves: an array begins with the points, "counting over 64 points .. gives 13"
+-- ---- curves: an array begins with the points, and blank ones follow
+
+-- a number "counting over 64 points .. gives 13"
+abbrev pub pointCount : Parser ℕ
+pointCount = upTo 64
 
 -- 0 | 1 index
 unfoldable pub loopback : Parser LoopbackCodes
@@ -129,7 +133,7 @@ loopback = below 2 then λ code. when (eqb code 1) 0 number then λ index. done 
 -- "shape point count, points, loopback"
 unfoldable pub shape : Parser ShapeCodes
 shape =
-    upTo 64 then λ count.
+    pointCount then λ count.
     row (λ l. point (lastX l)) count then λ points.
     loopback then λ loopback.
     done (record { points = padded 64 blankPoint points; count = count; loopback = loopback })
@@ -137,7 +141,7 @@ shape =
 -- "path count, closed, points"
 unfoldable pub path : Parser PathCodes
 path =
-    upTo 64 then λ count.
+    pointCount then λ count.
     yesNo then λ closed.
     row (λ l. pathPoint) count then λ points.
     done (record { points = padded 64 blankPathPoint points; count = count; closed = closed })

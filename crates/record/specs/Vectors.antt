@@ -32,7 +32,7 @@ use Rattle.record.specs.Questions.{itemQuestions, itemAnswer}
 use Rattle.record.specs.Reading.{rate, span, smooth, settings, modulation, point, pathPoint, loopback, shape, path, scale, item}
 use Rattle.record.specs.Writing.{rateBytes, spanBytes, smoothBytes, settingsBytes, modulationBytes, pointBytes, pathPointBytes, loopbackBytes, shapeBytes, pathBytes, scaleBytes, itemBytes}
 use Rattle.record.specs.Kept.{keptRate, keptSpan, keptSmooth, keptSettings, keptLoopback, keptShape, keptPath, kept}
-use Rattle.record.specs.Records.{Answer, given, refused, ended, wholeRecord, asked, readRecord, writeAnswer}
+use Rattle.record.specs.Records.{Answer, given, refused, ended, wholeRecord, asked, readRecord, writeQuestions, writeAnswer}
 
 rate-right : f64-48000 ≡ f64 48000 1
 unfolding ofBits round
@@ -192,7 +192,7 @@ order = refl
 
 -- a buffer with no room for one byte: the questions come before 21
 room : map (λ i. writeAnswer i 0) (example ∷ with-x (f32 2 1) ∷ with-curve (f32 1 2048) ∷ []) ≡ 21 ∷ 11 ∷ 10 ∷ []
-unfolding example with-curve with-x with-curves writeAnswer kept keptSettings keptRate keptSpan keptSmooth keptShape keptPath keptLoopback givenShape givenPath givenPoints givenPathPoints tabulate shapeOf pathOf sortedArray clampedPath pointOf pathPointOf modOf sortedPoints insertPoint inserted slotOf lastWhere clampedPoint clampedPathPoint
+unfolding example with-curve with-x with-curves writeAnswer writeQuestions kept keptSettings keptRate keptSpan keptSmooth keptShape keptPath keptLoopback givenShape givenPath givenPoints givenPathPoints tabulate shapeOf pathOf sortedArray clampedPath pointOf pathPointOf modOf sortedPoints insertPoint inserted slotOf lastWhere clampedPoint clampedPathPoint
     itemBytes settingsBytes shapeBytes pathBytes rateBytes spanBytes smoothBytes encoded groups toBits pointBytes pathPointBytes modulationBytes loopbackBytes scaleBytes rowBytes
     itemAnswer itemQuestions firstNo everyKept every settingsKnown transportKnown shapeKnown pathKnown pointKnown pathPointKnown settingsFinite shapeFinite pathFinite pointFinite pathPointFinite transportFinite loopbackIn pathOnPaper shapeOnGrid transportIn onPaper isMultiple clampOf lt le ofBits neg round
 room = refl
