@@ -1,6 +1,7 @@
-// What calls hand in: settings, a transport, a shape, a path and a restart as codes and numbers, any of them. A choice is a code, with the fields of all its cases
+// What calls hand in: settings, a transport, a shape, a path, a restart and an item as codes and numbers, any of them. A choice is a code, with the fields of all its cases
 // beside it; of a code that is not known, and of fields of a case that was not chosen, nothing is meant. Codes count from 0, in the order of the Rust's cases.
 use points::MAX_POINTS;
+use points::POINT_BUSES;
 
 // ---- settings
 
@@ -114,4 +115,19 @@ pub struct PathCodes {
 pub struct RestartCodes {
     pub code: u64,
     pub frame: u64,
+}
+
+// ---- an item
+
+// What a record holds (document 02, W-203).
+pub struct ItemCodes {
+    pub settings: SettingsCodes,
+    pub shape: ShapeCodes,
+    pub path: PathCodes,
+    pub buses: [f32; POINT_BUSES],
+    pub seed: u64,
+    pub tempo: f64,
+    pub beats_per_bar: f64,
+    pub swing: f32,
+    pub scale: ScaleCodes,
 }
