@@ -63,3 +63,23 @@ mod runner {
 pub fn lfo_run(run: &[u8], out: &mut [u8]) -> u64 {
     unsafe { runner::lfo_run(run.as_ptr(), run.len(), out.as_mut_ptr(), out.len()) }
 }
+
+#[cfg(feature = "items")]
+mod item {
+    unsafe extern "C" {
+        pub fn lfo_item_read(_: *const u8, _: usize, _: *mut u8, _: usize) -> u64;
+        pub fn lfo_item_write(_: *const u8, _: usize, _: *mut u8, _: usize) -> u64;
+    }
+}
+
+/// The number of a record and, where it is 0, its item's numbers.
+#[cfg(feature = "items")]
+pub fn lfo_item_read(record: &[u8], out: &mut [u8]) -> u64 {
+    unsafe { item::lfo_item_read(record.as_ptr(), record.len(), out.as_mut_ptr(), out.len()) }
+}
+
+/// The number of an item and, where it is 0, the length of its record and the record.
+#[cfg(feature = "items")]
+pub fn lfo_item_write(item: &[u8], out: &mut [u8]) -> u64 {
+    unsafe { item::lfo_item_write(item.as_ptr(), item.len(), out.as_mut_ptr(), out.len()) }
+}

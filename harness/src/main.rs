@@ -17,6 +17,11 @@ mod drawn;
 mod ffi;
 mod figures;
 mod floats;
+mod item_compare;
+mod item_examples;
+mod item_figures;
+mod item_values;
+mod items;
 mod legs;
 mod player;
 mod progress;
@@ -53,17 +58,24 @@ const SUBJECTS: [(&str, Compare, u64); 4] = [
 const USAGE: &str = "usage: harness/run vectors chaos|curves
        harness/run vectors runs DIR
        harness/run show BYTES
+       harness/run items examples DIR
+       harness/run items show FILE
        harness/run compare SUBJECT|all [COUNT] [SEED]
        harness/run compare runs [COUNT] [SEED] [FRAMES]
+       harness/run compare items [COUNT] [SEED]
        harness/run compare bend long
        harness/run compare legs long
        harness/run compare runs long
 SUBJECT is floats, bend, legs or choices; COUNT the least number of values of each.
 BYTES are those of a run, in hexadecimal.
+Of items, COUNT is the least number of records; `items show` writes the fields of the record in FILE beside its bytes.
 Of runs, COUNT is the least number of runs and FRAMES of frames; run i has the seed SEED + i.";
 
 /// The runs of a short comparison.
 const RUNS: u64 = 100_000;
+
+/// The records of a comparison of items.
+const RECORDS: u64 = 10_000_000;
 
 fn number(word: &str) -> u64 {
     word.replace('_', "").parse().unwrap_or_else(|_| usage())
@@ -100,6 +112,7 @@ fn compare(subject: &str, count: Option<u64>, seed: u64) -> bool {
         usage();
     }
     if subject == "all" {
+        right &= !cfg!(feature = "items") || items(&[]);
         right &= runs(&[]);
     }
     println!(
@@ -144,6 +157,15 @@ fn runs(words: &[&str]) -> bool {
     runs::compare(&wanted)
 }
 
+/// Compares items: COUNT, SEED.
+fn items(words: &[&str]) -> bool {
+    if words.len() > 2 {
+        usage();
+    }
+    let word = |i: usize, other: u64| words.get(i).map_or(other, |w| number(w));
+    is_release() && item_compare::compare(word(0, RECORDS), word(1, 1))
+}
+
 fn stored_runs(dir: &str) -> bool {
     let release = is_release();
     if release {
@@ -174,6 +196,9 @@ fn main() {
         ["compare", "legs", "long"] => every_coordinate(),
         ["compare", "runs", "long"] => runs::compare_long(),
         ["compare", "runs", ref rest @ ..] => runs(rest),
+        ["compare", "items", ref rest @ ..] => items(rest),
+        ["items", "examples", dir] => item_examples::write(Path::new(dir)),
+        ["items", "show", file] => item_examples::show(Path::new(file)),
         ["compare", subject] => compare(subject, None, 1),
         ["compare", subject, count] => compare(subject, Some(number(count)), 1),
         ["compare", subject, count, seed] => compare(subject, Some(number(count)), number(seed)),

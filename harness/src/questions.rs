@@ -1,4 +1,5 @@
 //! The questions of documents 01 and 02 to each call, in their order, written from their words. The first "no" gives the number; success is 0.
+use crate::items::Item;
 use crate::lfo::MAX_POINTS;
 use crate::run::{Block, Call, Mod, Path, Present, Rate, Scale, Settings, Shape, Span, Transport};
 
@@ -232,6 +233,42 @@ pub fn answer(call: &Call, played: u64) -> u64 {
 pub fn failed(call: &Call, played: u64) -> Vec<u64> {
     let asked = asked(call, played);
     asked.iter().filter(|q| !q.1).map(|q| q.0).collect()
+}
+
+// ---- a whole item, as one call
+
+/// The questions that are put to an item, in their order.
+pub const ITEM: [u64; 7] = [1, 2, 4, 11, 10, 5, 6];
+
+/// Its transport: 48,000 samples a second, at the start of the song.
+pub fn item_transport(i: &Item) -> Transport {
+    Transport {
+        sample_rate: 48_000f64.to_bits(),
+        tempo: i.tempo,
+        beats_per_bar: i.beats_per_bar,
+        playing: 0,
+        beats: 0,
+        seconds: 0,
+        swing: i.swing,
+        scale: i.scale,
+    }
+}
+
+/// Every question that the item fails, in their order: each is put to all its parts before the next one.
+pub fn item_failed(i: &Item) -> Vec<u64> {
+    let parts = [
+        settings_asked(&i.settings),
+        shape(&i.shape, 0),
+        path(&i.path, 0),
+        vec![(2, all_finite(&i.buses))],
+        phase(&item_transport(i)),
+    ];
+    let fails = |n: &u64| parts.iter().flatten().any(|q| q.0 == *n && !q.1);
+    ITEM.into_iter().filter(fails).collect()
+}
+
+pub fn item(i: &Item) -> u64 {
+    item_failed(i).first().copied().unwrap_or(0)
 }
 
 /// The questions that apply to making a player (place 9) and to the call of each tag.

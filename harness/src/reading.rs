@@ -1,4 +1,5 @@
-//! Reads the calls of a run from its bytes, by docs/RUN.md alone. Nothing comes of bytes that are malformed.
+//! Reads the calls of a run from its bytes, by docs/RUN.md alone, and an item that is handed to the writer. Nothing comes of bytes that are malformed.
+use crate::items::{BUSES, Item, ROOM};
 use crate::run::{
     Block, Call, Mod, Path, PathPoint, Point, Present, Rate, Scale, Settings, Shape, Span,
     Transport,
@@ -159,11 +160,34 @@ impl<'a> Reader<'a> {
             beats: self.number()?,
             seconds: self.number()?,
             swing: self.float()?,
-            scale: match self.number()? {
-                0 => Scale::Percent(self.float()?),
-                1 => Scale::Rate(self.float()?),
-                code => Scale::Unknown(code),
-            },
+            scale: self.scale()?,
+        })
+    }
+
+    fn scale(&mut self) -> Option<Scale> {
+        Some(match self.number()? {
+            0 => Scale::Percent(self.float()?),
+            1 => Scale::Rate(self.float()?),
+            code => Scale::Unknown(code),
+        })
+    }
+
+    fn item(&mut self) -> Option<Item> {
+        let (settings, shape, path) = (self.settings()?, self.shape()?, self.path()?);
+        let mut buses = [0; BUSES];
+        for bus in &mut buses {
+            *bus = self.float()?;
+        }
+        Some(Item {
+            settings,
+            shape,
+            path,
+            buses,
+            seed: self.number()?,
+            tempo: self.number()?,
+            beats_per_bar: self.number()?,
+            swing: self.float()?,
+            scale: self.scale()?,
         })
     }
 
@@ -200,4 +224,12 @@ impl<'a> Reader<'a> {
             _ => return None,
         })
     }
+}
+
+/// The item that bytes hand to the writer, and the length of the writer's buffer.
+pub fn handed(bytes: &[u8]) -> Option<(Item, u64)> {
+    let mut reader = Reader::new(bytes);
+    let room = reader.at_most(ROOM)?;
+    let item = reader.item()?;
+    reader.at_end().then_some((item, room))
 }

@@ -14,17 +14,17 @@ const NOT_FINITE: [u32; 6] = [
     0xffc0_0000,
 ];
 
-fn not_finite(v: &mut Values) -> u32 {
+pub fn not_finite(v: &mut Values) -> u32 {
     v.of(&NOT_FINITE)
 }
 
-fn not_finite_f64(v: &mut Values) -> u64 {
+pub fn not_finite_f64(v: &mut Values) -> u64 {
     let nan = 0x7ff0_0000_0000_0000 | v.word() >> 12;
     v.of(&[0x7ff0_0000_0000_0000, 0xfff0_0000_0000_0000, nan])
 }
 
 // Just past the known codes; known but for bits above the 8th, the 16th or the 32nd; any other.
-fn unknown(v: &mut Values, count: u64) -> u64 {
+pub fn unknown(v: &mut Values, count: u64) -> u64 {
     let low = v.below(count);
     let any = v.number().max(count);
     v.of(&[
@@ -78,7 +78,7 @@ fn settings_code(v: &mut Values, s: &mut Settings) {
     }
 }
 
-fn settings(v: &mut Values, s: &mut Settings) {
+pub fn settings(v: &mut Values, s: &mut Settings) {
     match v.below(3) {
         0 => settings_code(v, s),
         1 => match v.below(5) {
@@ -130,7 +130,7 @@ fn off_grid(v: &mut Values, s: &mut Shape) {
     }
 }
 
-fn shape(v: &mut Values, s: &mut Shape) {
+pub fn shape(v: &mut Values, s: &mut Shape) {
     let kept = s.points.len().min(64);
     let at = v.index(kept.max(1));
     match v.below(8) {
@@ -168,7 +168,7 @@ fn off_paper(v: &mut Values, p: &mut Path) {
     ]);
 }
 
-fn path(v: &mut Values, p: &mut Path) {
+pub fn path(v: &mut Values, p: &mut Path) {
     let kept = p.points.len().min(64);
     let at = v.index(kept.max(1));
     match v.below(7) {
@@ -188,7 +188,7 @@ fn path(v: &mut Values, p: &mut Path) {
     }
 }
 
-fn transport(v: &mut Values, t: &mut Transport) {
+pub fn transport(v: &mut Values, t: &mut Transport) {
     match v.below(3) {
         0 => match v.below(2) {
             0 => t.playing = unknown(v, 2),

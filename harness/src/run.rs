@@ -1,5 +1,6 @@
 //! A run as docs/RUN.md has it: making a player, then calls. A code is any number and a float is its bits, so that every field can hold what
 //! no player accepts.
+use crate::items::Item;
 use crate::lfo;
 
 /// 0, or 1 and then the value; any other number is an unknown code.
@@ -217,7 +218,11 @@ impl Numbers {
     fn transport(&mut self, t: &Transport) {
         self.all([t.sample_rate, t.tempo, t.beats_per_bar]);
         self.all([t.playing, t.beats, t.seconds, t.swing.into()]);
-        match t.scale {
+        self.scale(t.scale);
+    }
+
+    fn scale(&mut self, scale: Scale) {
+        match scale {
             Scale::Percent(p) => self.all([0, p.into()]),
             Scale::Rate(p) => self.all([1, p.into()]),
             Scale::Unknown(code) => self.put(code),
@@ -257,6 +262,19 @@ impl Numbers {
             numbers.call(call);
         }
         numbers
+    }
+
+    /// The numbers of an item.
+    pub fn item(item: &Item) -> Vec<u64> {
+        let mut numbers = Self::default();
+        numbers.settings(&item.settings);
+        numbers.shape(&item.shape);
+        numbers.path(&item.path);
+        numbers.all(item.buses.map(u64::from));
+        numbers.all([item.seed, item.tempo, item.beats_per_bar]);
+        numbers.put(item.swing);
+        numbers.scale(item.scale);
+        numbers.0
     }
 }
 

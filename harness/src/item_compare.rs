@@ -1,0 +1,444 @@
+//! Reading and writing of items by the C functions against items.rs, every byte of `out`; and items.rs against what a record was made for.
+use crate::item_examples;
+use crate::item_figures::{Figures, failing};
+use crate::item_values::{
+    Change, Effect, accepted, changes, longest, malformed, refuse, replaced, room, shortest,
+};
+use crate::items::{
+    self, Cause, Fault, Item, NO_ROOM, Placed, ROOM, Read, bytes, handed, kept, numbers_of,
+};
+use crate::progress::Progress;
+use crate::questions::{self, ITEM};
+use crate::runs::hex;
+use crate::values::Values;
+
+type Function = fn(&[u8], &mut [u8]) -> u64;
+
+/// The two functions that are compared with items.rs.
+struct Side {
+    read: Function,
+    write: Function,
+}
+
+#[cfg(feature = "items")]
+const SIDE: Side = Side {
+    read: crate::ffi::lfo_item_read,
+    write: crate::ffi::lfo_item_write,
+};
+/// Without the C functions items.rs stands in for them, so that it is held to itself alone.
+#[cfg(not(feature = "items"))]
+const SIDE: Side = Side {
+    read: items::item_read,
+    write: items::item_write,
+};
+
+/// What an element of `out` holds before a call.
+const BEFORE: u8 = 0xa5;
+/// So much longer than needed is `out`.
+const BEHIND: usize = 40;
+/// The items of a round.
+const ITEMS: u64 = 20;
+/// As many records have every byte changed: one for so many records that are wanted.
+const WHOLE: u64 = 100;
+const WHOLE_IN: u64 = 100_000;
+/// From so many records on every kind must occur.
+const ALL_KINDS: u64 = 1_000_000;
+
+struct Comparison {
+    v: Values,
+    figures: Figures,
+    progress: Progress,
+    out: Vec<u8>,
+    /// Records read, and items written.
+    records: u64,
+    items: u64,
+    differed: u64,
+}
+
+// ---- one call
+
+impl Comparison {
+    fn differs(&mut self, what: &str, input: &[u8], other: &str) {
+        self.differed += 1;
+        if self.differed <= 20 {
+            println!("items: {what} differs: {}", hex(input));
+            println!("    {other}");
+        }
+    }
+
+    // `out` is longer than it must be, now and then just as long, or too short.
+    fn call(&mut self, what: &str, function: Function, input: &[u8], wanted: &[u8]) {
+        let long = match self.v.below(64) {
+            0 => wanted.len(),
+            1 => self.v.index(wanted.len()),
+            _ => wanted.len() + BEHIND,
+        };
+        let written: &[u8] = if long < wanted.len() { &[] } else { wanted };
+        self.figures.short += u64::from(long < wanted.len());
+        self.out.resize(self.out.len().max(long), 0);
+        let out = &mut self.out[..long];
+        out.fill(BEFORE);
+        let size = function(input, out) as usize;
+        let (front, behind) = out.split_at(written.len());
+        if size != written.len() || front != written || behind.iter().any(|b| *b != BEFORE) {
+            let got = hex(&out[..size.min(long)]);
+            let other = format!("{size} of {long} bytes: {got}; wanted {}", hex(written));
+            self.differs(what, input, &other);
+        }
+    }
+
+    /// Reads a record on both sides, and writes it again where it is accepted.
+    fn read(&mut self, record: &[u8]) -> Read {
+        self.records += 1;
+        let read = items::read(record);
+        self.call("read", SIDE.read, record, &items::reading_gives(&read));
+        self.figures.read.answer(read.answer());
+        match &read {
+            Read::Item(item) => self.write_again(item, record),
+            Read::Fault(fault) => self.figures.fault(*fault),
+            Read::Refused(number, item) => {
+                self.figures.read.failed(*number, &failing(item), false);
+            }
+        }
+        read
+    }
+
+    fn write_again(&mut self, item: &Item, record: &[u8]) {
+        self.figures.again += 1;
+        if &kept(item) != item || bytes(item) != record {
+            self.differs("own record", record, "not the one record of its item");
+        }
+        let room = record.len() as u64;
+        let wanted = items::writing_gives(&Ok(record.to_vec()));
+        self.call("write again", SIDE.write, &handed(item, room), &wanted);
+        if self.v.one_in(16) {
+            let wanted = items::writing_gives(&Err(NO_ROOM));
+            let any = self.v.below(room);
+            let room = self.v.of(&[room - 1, any]);
+            self.call("write", SIDE.write, &handed(item, room), &wanted);
+        }
+    }
+
+    /// Hands an item to both writers; its record, where it is accepted.
+    fn write(&mut self, item: &Item) -> Option<Vec<u8>> {
+        self.items += 1;
+        let needed = items::write(item, ROOM).map_or(100, |record| record.len() as u64);
+        let room = room(&mut self.v, needed);
+        let written = items::write(item, room);
+        let input = handed(item, room);
+        self.call("write", SIDE.write, &input, &items::writing_gives(&written));
+        self.figures.handed(item);
+        self.figures
+            .written
+            .answer(written.as_ref().err().copied().unwrap_or(0));
+        let failing = failing(item);
+        let first = ITEM.into_iter().find(|n| failing.iter().any(|f| f.0 == *n));
+        if first.unwrap_or(0) != questions::item(item) {
+            self.differs("own questions", &input, &format!("{failing:?}"));
+        }
+        match (written, first) {
+            (Ok(record), _) => {
+                self.figures.accepted(item);
+                Some(record)
+            }
+            (Err(number), Some(_)) => {
+                self.figures.written.failed(number, &failing, room == 0);
+                None
+            }
+            _ => None,
+        }
+    }
+}
+
+// ---- records damaged in a known way
+
+/// What must come of a record: its number and, where it is a fault, the fault.
+type Wanted = (u64, Option<Fault>);
+
+fn wanted_fault(field: items::Field, cause: Cause) -> Wanted {
+    let fault = Fault { cause, field };
+    (fault.number(), Some(fault))
+}
+
+/// What must come of a record with these changes, in rising order: the first fault, else the first of the questions.
+fn wanted_of(numbers: &[Placed], list: &[(usize, &Change)]) -> Wanted {
+    let fault = |(i, change): &(usize, &Change)| match change.effect {
+        Effect::Bad(cause) => Some(wanted_fault(numbers[*i].field, cause)),
+        Effect::Asks(_) => None,
+    };
+    let asks = |n: &u64| list.iter().any(|c| c.1.effect == Effect::Asks(*n));
+    let first = list.iter().find_map(fault);
+    first.unwrap_or_else(|| (ITEM.into_iter().find(asks).unwrap_or(0), None))
+}
+
+impl Comparison {
+    fn known(&mut self, record: &[u8], wanted: Wanted) {
+        self.figures.known += 1;
+        let read = self.read(record);
+        let fault = match &read {
+            Read::Fault(fault) => Some(*fault),
+            _ => None,
+        };
+        if (read.answer(), fault) != wanted {
+            let other = format!("{} {fault:?}; wanted {wanted:?}", read.answer());
+            self.differs("own reading", record, &other);
+        }
+    }
+
+    // Cut at every byte, and at the same places with a number that does not end.
+    fn cut(&mut self, record: &[u8], numbers: &[Placed]) {
+        for number in numbers {
+            let wanted = wanted_fault(number.field, Cause::Cut);
+            for end in number.at..number.end {
+                self.known(&record[..end], wanted);
+            }
+            if self.v.one_in(4) {
+                let mut endless = record[..number.at].to_vec();
+                let many = self.v.of(&[1, 2, 9, 10, 11, 30]);
+                endless.extend(vec![self.v.of(&[0x80, 0xff]); many]);
+                self.known(&endless, wanted);
+            }
+        }
+    }
+
+    fn lengthened(&mut self, record: &[u8]) {
+        let any = self.v.word().to_le_bytes();
+        let many = 1 + self.v.index(8);
+        for more in [&[0][..], &[0x80], &any[..many], &record[..many], record] {
+            let wanted = wanted_fault(items::Field::Percent, Cause::Left);
+            self.known(&[record, more].concat(), wanted);
+        }
+    }
+
+    fn each_number(&mut self, record: &[u8], numbers: &[Placed]) {
+        for i in 0..numbers.len() {
+            for change in changes(&mut self.v, numbers, i) {
+                let list = [(i, &change)];
+                let damaged = replaced(record, numbers, &list);
+                self.known(&damaged, wanted_of(numbers, &list));
+            }
+        }
+    }
+
+    fn any_change(&mut self, numbers: &[Placed], i: usize) -> Change {
+        let mut list = changes(&mut self.v, numbers, i);
+        list.swap_remove(self.v.index(list.len()))
+    }
+
+    // Two wrong numbers; behind them now and then a cut or bytes left over.
+    fn two_faults(&mut self, record: &[u8], numbers: &[Placed]) {
+        let (a, b) = (self.v.index(numbers.len()), self.v.index(numbers.len()));
+        if a == b {
+            return;
+        }
+        self.figures.two += 1;
+        let (i, j) = (a.min(b), a.max(b));
+        let (first, second) = (self.any_change(numbers, i), self.any_change(numbers, j));
+        let list = [(i, &first), (j, &second)];
+        let mut wanted = wanted_of(numbers, &list);
+        let mut damaged = replaced(record, numbers, &list);
+        match self.v.below(4) {
+            0 if wanted.1.is_none() => {
+                damaged.push(self.v.word() as u8);
+                wanted = wanted_fault(items::Field::Percent, Cause::Left);
+            }
+            1 if wanted.1.is_none() => {
+                damaged.pop();
+                wanted = wanted_fault(items::Field::Percent, Cause::Cut);
+            }
+            _ => {}
+        }
+        self.known(&damaged, wanted);
+    }
+
+    // Two parts wrong for a question, the one and then the other way about: the order of the questions alone counts.
+    fn two_questions(&mut self, record: &[u8], numbers: &[Placed]) {
+        let asks = |c: &Change| matches!(c.effect, Effect::Asks(_));
+        let (mut list, mut from) = (vec![], 0);
+        while let Some(i) =
+            (from < numbers.len()).then(|| from + self.v.index(numbers.len() - from))
+        {
+            let change = self.any_change(numbers, i);
+            if asks(&change) {
+                list.push((i, change));
+            }
+            from = i + 1;
+        }
+        let list: Vec<(usize, &Change)> = list.iter().map(|(i, c)| (*i, c)).collect();
+        if list.len() > 1 {
+            self.figures.two += 1;
+            let damaged = replaced(record, numbers, &list);
+            self.known(&damaged, wanted_of(numbers, &list));
+        }
+    }
+
+    // A number of very many bytes: one that does not end is cut short, one that ends is too large or not in shortest form.
+    fn endless(&mut self, record: &[u8], numbers: &[Placed]) {
+        for number in numbers.iter().step_by(5) {
+            for (last, cause) in [
+                (None, Cause::Cut),
+                (Some(1), Cause::Large),
+                (Some(0), Cause::Long),
+            ] {
+                let mut bytes = record[..number.at].to_vec();
+                bytes.extend([0x80; 70_000]);
+                bytes.extend(last);
+                self.known(&bytes, wanted_fault(number.field, cause));
+            }
+        }
+    }
+
+    // Every byte of the record changed to every other value.
+    fn every_byte(&mut self, record: &[u8]) {
+        self.figures.whole += 1;
+        let mut changed = record.to_vec();
+        for i in 0..record.len() {
+            for by in 1..=255 {
+                changed[i] = record[i] ^ by;
+                self.figures.changed += 1;
+                self.read(&changed);
+            }
+            changed[i] = record[i];
+        }
+    }
+}
+
+// ---- rounds
+
+impl Comparison {
+    // An item that is accepted and what comes of its record; one that is refused; bytes that hand no item in.
+    fn item(&mut self, seed: u64) {
+        let item = accepted(seed);
+        if let Some(record) = self.write(&item) {
+            match self.read(&record) {
+                Read::Item(back) if back == kept(&item) => {}
+                _ => self.differs("own round trip", &record, "not read back as kept"),
+            }
+        }
+        // as the numbers of a record, its points may be out of order or out of range
+        self.read(&bytes(&item));
+        let mut wrong = item;
+        refuse(&mut self.v, &mut wrong);
+        self.write(&wrong);
+        self.read(&bytes(&wrong));
+        let input = malformed(&mut self.v, &wrong);
+        self.items += 1;
+        self.figures.written.answer(items::MALFORMED);
+        let wanted = items::writing_gives(&Err(items::MALFORMED));
+        self.call("write", SIDE.write, &input, &wanted);
+    }
+
+    // A list of many points, of which the first 64 count.
+    fn many_points(&mut self, seed: u64) {
+        let mut item = accepted(seed);
+        let many = self.v.of(&[71, 127, 128, 4095, 4096]);
+        if let (Some(p), Some(q)) = (item.shape.points.last(), item.path.points.last()) {
+            let (p, q) = (*p, *q);
+            item.shape.points.resize(many, p);
+            item.path.points.resize(self.v.of(&[many, 65]), q);
+            self.write(&item);
+        }
+    }
+
+    fn damage(&mut self, seed: u64, whole: bool) {
+        let record = bytes(&kept(&accepted(seed)));
+        let numbers = numbers_of(&record);
+        self.known(&record, (0, None));
+        if record.len() > 400 && !self.v.one_in(8) {
+            return;
+        }
+        self.cut(&record, &numbers);
+        self.lengthened(&record);
+        self.each_number(&record, &numbers);
+        for _ in 0..20 {
+            self.two_faults(&record, &numbers);
+            self.two_questions(&record, &numbers);
+        }
+        if whole {
+            self.endless(&record, &numbers);
+            self.every_byte(&record);
+        }
+    }
+
+    fn short_record(&mut self, mut seed: u64) -> u64 {
+        while bytes(&kept(&accepted(seed))).len() > 220 {
+            seed = Values::new(seed).word();
+        }
+        seed
+    }
+
+    // The records of examples/, docs/RECORD.md, the shortest and the longest record.
+    fn examples(&mut self) {
+        for (_, item) in item_examples::all() {
+            if let Some(record) = self.write(&item) {
+                self.known(&record, (0, None));
+            }
+        }
+        for (item, size) in [shortest(), longest()] {
+            let record = bytes(&item);
+            self.known(&record, (0, None));
+            if record.len() != size {
+                self.differs("own length", &record, &format!("not {size} bytes"));
+            }
+        }
+        for wrong in item_examples::wrong() {
+            self.differs("an example", &[], &wrong);
+        }
+    }
+
+    fn round(&mut self, seed: u64, whole: bool) {
+        let mut seeds = Values::new(seed);
+        for _ in 0..ITEMS {
+            self.item(seeds.word());
+        }
+        self.many_points(seeds.word());
+        let seed = seeds.word();
+        let seed = if whole { self.short_record(seed) } else { seed };
+        self.damage(seed, whole);
+    }
+
+    fn show(&self, wanted: u64) -> bool {
+        let seconds = self.progress.seconds();
+        println!(
+            "items      {} records read and {} items written, {} differed, {seconds:.1} s, {:.0} records a second",
+            self.records,
+            self.items,
+            self.differed,
+            self.records as f64 / seconds
+        );
+        print!("{}", self.figures);
+        if cfg!(not(feature = "items")) {
+            println!("  the C functions are not linked: items.rs was held to itself");
+        }
+        let missing = self.figures.missing();
+        if !missing.is_empty() {
+            println!("  what did not occur: {}", missing.join(", "));
+        }
+        self.differed == 0 && (missing.is_empty() || wanted < ALL_KINDS)
+    }
+}
+
+/// Compares at least so many records; round i has the seed SEED + i. Answers whether all is equal and, of 1,000,000 records or more, every kind occurred.
+pub fn compare(wanted: u64, seed: u64) -> bool {
+    let mut c = Comparison {
+        v: Values::new(seed),
+        figures: Figures::default(),
+        progress: Progress::new(),
+        out: vec![],
+        records: 0,
+        items: 0,
+        differed: 0,
+    };
+    c.examples();
+    let whole = WHOLE.min(wanted / WHOLE_IN);
+    for i in 0.. {
+        if c.records >= wanted {
+            break;
+        }
+        c.round(seed.wrapping_add(i), i < whole);
+        let records = c.records;
+        c.progress
+            .show(|| format!("items      {records:>11} of {wanted}"));
+    }
+    c.show(wanted)
+}
