@@ -11,6 +11,7 @@ use crate::progress::Progress;
 use crate::questions::{self, ITEM};
 use crate::runs::hex;
 use crate::values::Values;
+use std::collections::BTreeMap;
 
 type Function = fn(&[u8], &mut [u8]) -> u64;
 
@@ -28,14 +29,16 @@ const SIDE: Side = Side {
 /// Without the C functions items.rs stands in for them, so that it is held to itself alone.
 #[cfg(not(feature = "items"))]
 const SIDE: Side = Side {
-    read: items::item_read,
-    write: items::item_write,
+    read: items::stand_in::item_read,
+    write: items::stand_in::item_write,
 };
 
 /// What an element of `out` holds before a call.
 const BEFORE: u8 = 0xa5;
 /// So much longer than needed is `out`.
 const BEHIND: usize = 40;
+/// The most bytes that are shown of a record or an item that differs.
+const SHOWN: usize = 2000;
 /// The items of a round.
 const ITEMS: u64 = 20;
 /// As many records have every byte changed: one for so many records that are wanted.
@@ -45,6 +48,8 @@ const WHOLE_IN: u64 = 100_000;
 const ALL_KINDS: u64 = 1_000_000;
 
 struct Comparison {
+    /// Of the round, with the values that it is made of.
+    seed: u64,
     v: Values,
     figures: Figures,
     progress: Progress,
@@ -61,7 +66,9 @@ impl Comparison {
     fn differs(&mut self, what: &str, input: &[u8], other: &str) {
         self.differed += 1;
         if self.differed <= 20 {
-            println!("items: {what} differs: {}", hex(input));
+            let shown = hex(&input[..input.len().min(SHOWN)]);
+            let (seed, long) = (self.seed, input.len());
+            println!("items: {what} differs (seed {seed}), {long} bytes: {shown}");
             println!("    {other}");
         }
     }
@@ -81,8 +88,9 @@ impl Comparison {
         let size = function(input, out) as usize;
         let (front, behind) = out.split_at(written.len());
         if size != written.len() || front != written || behind.iter().any(|b| *b != BEFORE) {
-            let got = hex(&out[..size.min(long)]);
-            let other = format!("{size} of {long} bytes: {got}; wanted {}", hex(written));
+            let got = hex(&out[..size.min(long).min(SHOWN)]);
+            let wanted = hex(&written[..written.len().min(SHOWN)]);
+            let other = format!("gives {size} of {long} bytes: {got}; wanted {wanted}");
             self.differs(what, input, &other);
         }
     }
@@ -214,8 +222,16 @@ impl Comparison {
         for i in 0..numbers.len() {
             for change in changes(&mut self.v, numbers, i) {
                 let list = [(i, &change)];
-                let damaged = replaced(record, numbers, &list);
-                self.known(&damaged, wanted_of(numbers, &list));
+                let wanted = wanted_of(numbers, &list);
+                let mut damaged = replaced(record, numbers, &list);
+                self.known(&damaged, wanted);
+                // judged once its last byte is read: what follows does not count, and without that byte it is cut short
+                if wanted.1.is_some() && self.v.one_in(4) {
+                    damaged.truncate(numbers[i].at + change.there.len());
+                    self.known(&damaged, wanted);
+                    damaged.pop();
+                    self.known(&damaged, wanted_fault(numbers[i].field, Cause::Cut));
+                }
             }
         }
     }
@@ -251,21 +267,25 @@ impl Comparison {
         self.known(&damaged, wanted);
     }
 
-    // Two parts wrong for a question, the one and then the other way about: the order of the questions alone counts.
+    // Two or three numbers wrong for different questions: their order alone counts, and not where they stand.
     fn two_questions(&mut self, record: &[u8], numbers: &[Placed]) {
-        let asks = |c: &Change| matches!(c.effect, Effect::Asks(_));
-        let (mut list, mut from) = (vec![], 0);
-        while let Some(i) =
-            (from < numbers.len()).then(|| from + self.v.index(numbers.len() - from))
-        {
-            let change = self.any_change(numbers, i);
-            if asks(&change) {
-                list.push((i, change));
+        let mut asking: BTreeMap<u64, Vec<(usize, Change)>> = BTreeMap::new();
+        for i in 0..numbers.len() {
+            for change in changes(&mut self.v, numbers, i) {
+                if let Effect::Asks(n) = change.effect {
+                    asking.entry(n).or_default().push((i, change));
+                }
             }
-            from = i + 1;
         }
-        let list: Vec<(usize, &Change)> = list.iter().map(|(i, c)| (*i, c)).collect();
-        if list.len() > 1 {
+        let asking: Vec<Vec<(usize, Change)>> = asking.into_values().collect();
+        for _ in 0..10 {
+            let mut list: BTreeMap<usize, &Change> = BTreeMap::new();
+            for _ in 0..2 + self.v.below(2) {
+                let of = &asking[self.v.index(asking.len())];
+                let (i, change) = &of[self.v.index(of.len())];
+                list.insert(*i, change);
+            }
+            let list: Vec<(usize, &Change)> = list.into_iter().collect();
             self.figures.two += 1;
             let damaged = replaced(record, numbers, &list);
             self.known(&damaged, wanted_of(numbers, &list));
@@ -317,27 +337,81 @@ impl Comparison {
         }
         // as the numbers of a record, its points may be out of order or out of range
         self.read(&bytes(&item));
+        self.spoil(&item);
         let mut wrong = item;
         refuse(&mut self.v, &mut wrong);
         self.write(&wrong);
         self.read(&bytes(&wrong));
         let input = malformed(&mut self.v, &wrong);
-        self.items += 1;
-        self.figures.written.answer(items::MALFORMED);
-        let wanted = items::writing_gives(&Err(items::MALFORMED));
-        self.call("write", SIDE.write, &input, &wanted);
+        if items::written(&input) != Err(items::MALFORMED) {
+            self.differs("own item", &input, "not malformed");
+        }
+        self.hand(&input);
+        self.spoil(&wrong);
     }
 
-    // A list of many points, of which the first 64 count.
+    // Lists of many points: of an item the first 64 count, up to 4,096; a record has no more than 64.
     fn many_points(&mut self, seed: u64) {
         let mut item = accepted(seed);
+        let (Some(p), Some(q)) = (item.shape.points.last(), item.path.points.last()) else {
+            return;
+        };
+        let (p, q) = (*p, *q);
         let many = self.v.of(&[71, 127, 128, 4095, 4096]);
-        if let (Some(p), Some(q)) = (item.shape.points.last(), item.path.points.last()) {
-            let (p, q) = (*p, *q);
-            item.shape.points.resize(many, p);
-            item.path.points.resize(self.v.of(&[many, 65]), q);
-            self.write(&item);
+        item.shape.points.resize(many, p);
+        item.path.points.resize(self.v.of(&[many, 65]), q);
+        self.write(&item);
+        let mut over = item.clone();
+        match self.v.yes() {
+            true => over.shape.points.resize(4097, p),
+            false => over.path.points.resize(4097, q),
         }
+        self.hand(&handed(&over, ROOM));
+        self.past_64(kept(&item));
+    }
+
+    // One point more than a record may have, in order and in range.
+    fn past_64(&mut self, full: Item) {
+        self.known(&bytes(&full), (0, None));
+        let mut over = full.clone();
+        over.shape.points.push(over.shape.points[63]);
+        self.known(
+            &bytes(&over),
+            wanted_fault(items::Field::ShapeCount, Cause::Count),
+        );
+        let mut over = full;
+        over.path.points.push(over.path.points[63]);
+        self.known(
+            &bytes(&over),
+            wanted_fault(items::Field::PathCount, Cause::Count),
+        );
+    }
+
+    // Bytes that may hand an item in or not.
+    fn hand(&mut self, input: &[u8]) {
+        self.items += 1;
+        let written = items::written(input);
+        let answer = written.as_ref().err().copied().unwrap_or(0);
+        self.figures.written.answer(answer);
+        self.call("write", SIDE.write, input, &items::writing_gives(&written));
+    }
+
+    // A byte changed, taken away or put in.
+    fn spoil(&mut self, item: &Item) {
+        let mut input = handed(item, ROOM);
+        let (i, any) = (self.v.index(input.len()), self.v.word() as u8);
+        match self.v.below(4) {
+            0 => {
+                input.remove(i);
+            }
+            1 => input.insert(i, any),
+            _ => {
+                input[i] = self
+                    .v
+                    .of(&[0, 1, 2, 0x7f, 0x80, 0xff, any, input[i] ^ 0x80])
+            }
+        }
+        self.hand(&input);
     }
 
     fn damage(&mut self, seed: u64, whole: bool) {
@@ -352,8 +426,8 @@ impl Comparison {
         self.each_number(&record, &numbers);
         for _ in 0..20 {
             self.two_faults(&record, &numbers);
-            self.two_questions(&record, &numbers);
         }
+        self.two_questions(&record, &numbers);
         if whole {
             self.endless(&record, &numbers);
             self.every_byte(&record);
@@ -387,12 +461,14 @@ impl Comparison {
     }
 
     fn round(&mut self, seed: u64, whole: bool) {
-        let mut seeds = Values::new(seed);
+        (self.seed, self.v) = (seed, Values::new(seed));
         for _ in 0..ITEMS {
-            self.item(seeds.word());
+            let seed = self.v.word();
+            self.item(seed);
         }
-        self.many_points(seeds.word());
-        let seed = seeds.word();
+        let seed = self.v.word();
+        self.many_points(seed);
+        let seed = self.v.word();
         let seed = if whole { self.short_record(seed) } else { seed };
         self.damage(seed, whole);
     }
@@ -418,9 +494,10 @@ impl Comparison {
     }
 }
 
-/// Compares at least so many records; round i has the seed SEED + i. Answers whether all is equal and, of 1,000,000 records or more, every kind occurred.
+/// Compares at least so many records; round i has the seed SEED + i, so that `compare items 1 S` makes the round of seed S alone. Answers whether all is equal and, of 1,000,000 records or more, every kind occurred.
 pub fn compare(wanted: u64, seed: u64) -> bool {
     let mut c = Comparison {
+        seed,
         v: Values::new(seed),
         figures: Figures::default(),
         progress: Progress::new(),
@@ -432,10 +509,10 @@ pub fn compare(wanted: u64, seed: u64) -> bool {
     c.examples();
     let whole = WHOLE.min(wanted / WHOLE_IN);
     for i in 0.. {
+        c.round(seed.wrapping_add(i), i < whole);
         if c.records >= wanted {
             break;
         }
-        c.round(seed.wrapping_add(i), i < whole);
         let records = c.records;
         c.progress
             .show(|| format!("items      {records:>11} of {wanted}"));

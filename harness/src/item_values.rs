@@ -9,6 +9,7 @@ use crate::run::{
     Mod, Numbers, Path, PathPoint, Point, Present, Rate, Scale, Settings, Shape, Span, bytes_of,
 };
 use crate::values::Values;
+use Effect::{Asks, Bad};
 
 // ---- items
 
@@ -335,47 +336,57 @@ impl At<'_> {
         before.rev().find(|n| n.field == field).map(|n| n.value)
     }
 
-    // The values that a field refuses by itself, each with what comes of it.
-    fn values(&self, v: &mut Values) -> Vec<(u64, Effect)> {
-        use Effect::{Asks, Bad};
+    // What a field refuses by what it holds: an unknown code, a float that is not finite.
+    fn by_kind(&self, v: &mut Values) -> Option<(u64, Effect)> {
         let field = self.numbers[self.i].field;
-        let mut list = match (holds(field), is_of_point(field)) {
-            (Holds::Choice(count), _) => vec![(unknown(v, count), Bad(Cause::NoChoice))],
-            (Holds::F32, true) => vec![(not_finite(v).into(), Bad(Cause::NotFinite))],
-            (Holds::F32, false) => vec![(not_finite(v).into(), Asks(2))],
-            (Holds::F64, _) => vec![(not_finite_f64(v), Asks(2))],
-            _ => vec![],
-        };
-        match field {
+        Some(match (holds(field), is_of_point(field)) {
+            (Holds::Choice(count), _) => (unknown(v, count), Bad(Cause::NoChoice)),
+            (Holds::F32, true) => (not_finite(v).into(), Bad(Cause::NotFinite)),
+            (Holds::F32, false) => (not_finite(v).into(), Asks(2)),
+            (Holds::F64, _) => (not_finite_f64(v), Asks(2)),
+            _ => return None,
+        })
+    }
+
+    // What this field alone refuses.
+    fn by_field(&self, v: &mut Values) -> Vec<(u64, Effect)> {
+        match self.numbers[self.i].field {
             Field::ShapeCount | Field::PathCount => {
                 let any = v.number().max(65);
                 let count = v.of(&[65, 66, 127, 128, 4096, 1 << 32, u64::MAX, any]);
-                list.push((count, Bad(Cause::Count)));
+                vec![(count, Bad(Cause::Count))]
             }
-            Field::X | Field::Y => list.push((out_of_f32(v, 0.0, 1.0), Bad(Cause::Clamped))),
-            Field::Curve => {
-                list.push((out_of_f32(v, -1.0, 1.0), Bad(Cause::Clamped)));
-                list.push((bits(v.off_grid()).into(), Asks(10)));
-            }
-            Field::Bend => list.push((out_of_f32(v, -1.0, 1.0), Bad(Cause::Clamped))),
-            Field::PathX | Field::PathY => list.push((bits(v.off_paper()).into(), Asks(11))),
+            Field::X | Field::Y => vec![(out_of_f32(v, 0.0, 1.0), Bad(Cause::Clamped))],
+            Field::Bend => vec![(out_of_f32(v, -1.0, 1.0), Bad(Cause::Clamped))],
+            Field::Curve => vec![
+                (out_of_f32(v, -1.0, 1.0), Bad(Cause::Clamped)),
+                (bits(v.off_grid()).into(), Asks(10)),
+            ],
+            Field::PathX | Field::PathY => vec![(bits(v.off_paper()).into(), Asks(11))],
             Field::LoopbackIndex => {
                 let kept = self.last(Field::ShapeCount).unwrap_or(0);
                 let any = v.number().max(kept);
-                list.push((v.of(&[kept, kept + 1, 64, u64::MAX, any]), Asks(4)));
+                vec![(v.of(&[kept, kept + 1, 64, u64::MAX, any]), Asks(4))]
             }
-            Field::Coefficient => list.push((out_of_f32(v, 0.0, 1.0), Asks(5))),
-            Field::Tempo => list.push((out_of(v, 0.0, 1_000.0), Asks(6))),
-            Field::BeatsPerBar => list.push((out_of(v, 0.25, 64.0), Asks(6))),
-            _ => {}
+            Field::Coefficient => vec![(out_of_f32(v, 0.0, 1.0), Asks(5))],
+            Field::Tempo => vec![(out_of(v, 0.0, 1_000.0), Asks(6))],
+            Field::BeatsPerBar => vec![(out_of(v, 0.25, 64.0), Asks(6))],
+            _ => vec![],
         }
-        if field == Field::X
-            && let Some(before) = self.last(Field::X)
-            && f32::from_bits(before as u32) > 0.0
-        {
-            let below = below_x(v, f32::from_bits(before as u32));
-            list.push((below, Bad(Cause::Moved)));
-        }
+    }
+
+    // An x that the player would move.
+    fn moved(&self, v: &mut Values) -> Option<(u64, Effect)> {
+        let before = f32::from_bits(self.last(Field::X)? as u32);
+        let moves = self.numbers[self.i].field == Field::X && before > 0.0;
+        moves.then(|| (below_x(v, before), Bad(Cause::Moved)))
+    }
+
+    // The values that the field refuses by itself, each with what comes of it.
+    fn values(&self, v: &mut Values) -> Vec<(u64, Effect)> {
+        let mut list = self.by_field(v);
+        list.extend(self.by_kind(v));
+        list.extend(self.moved(v));
         list
     }
 }
@@ -393,11 +404,11 @@ pub fn changes(v: &mut Values, numbers: &[Placed], i: usize) -> Vec<Change> {
         .collect();
     list.push(Change {
         there: longer(v, value),
-        effect: Effect::Bad(Cause::Long),
+        effect: Bad(Cause::Long),
     });
     list.push(Change {
         there: larger(v, value, bits_of(field)),
-        effect: Effect::Bad(Cause::Large),
+        effect: Bad(Cause::Large),
     });
     list
 }

@@ -1,5 +1,5 @@
-//! An item and its record (document 02, W-203): a reader and a writer of our own, written from 02's words alone. What the two C functions are to
-//! give, `item_read` and `item_write` here, is made of them.
+//! An item and its record (document 02, W-203): a reader and a writer of our own, written from 02's words alone. `reading_gives` and
+//! `writing_gives` make of them what the two C functions are to put out.
 use crate::lfo;
 use crate::player::{path_points, shape_of};
 use crate::questions;
@@ -628,25 +628,35 @@ pub fn handed(item: &Item, room: u64) -> Vec<u8> {
     bytes
 }
 
-// As for a run: where `out` is too short for all of it, nothing is written and the answer is 0.
-fn put(out: &mut [u8], bytes: &[u8]) -> u64 {
-    match out.get_mut(..bytes.len()) {
-        None => 0,
-        Some(place) => {
-            place.copy_from_slice(bytes);
-            bytes.len() as u64
-        }
+/// What comes of bytes that hand an item to the writer, or fail to.
+pub fn written(bytes: &[u8]) -> Result<Vec<u8>, u64> {
+    match reading::handed(bytes) {
+        None => Err(MALFORMED),
+        Some((item, room)) => write(&item, room),
     }
 }
 
-pub fn item_read(record: &[u8], out: &mut [u8]) -> u64 {
-    put(out, &reading_gives(&read(record)))
-}
+/// What stands in for the C functions until they are linked.
+#[cfg(not(feature = "items"))]
+pub mod stand_in {
+    use super::{read, reading_gives, writing_gives, written};
 
-pub fn item_write(item: &[u8], out: &mut [u8]) -> u64 {
-    let written = match reading::handed(item) {
-        None => Err(MALFORMED),
-        Some((item, room)) => write(&item, room),
-    };
-    put(out, &writing_gives(&written))
+    // As for a run: where `out` is too short for all of it, nothing is written and the answer is 0.
+    fn put(out: &mut [u8], bytes: &[u8]) -> u64 {
+        match out.get_mut(..bytes.len()) {
+            None => 0,
+            Some(place) => {
+                place.copy_from_slice(bytes);
+                bytes.len() as u64
+            }
+        }
+    }
+
+    pub fn item_read(record: &[u8], out: &mut [u8]) -> u64 {
+        put(out, &reading_gives(&read(record)))
+    }
+
+    pub fn item_write(item: &[u8], out: &mut [u8]) -> u64 {
+        put(out, &writing_gives(&written(item)))
+    }
 }

@@ -4,6 +4,7 @@
 //!     harness/run compare all
 //!     harness/run compare floats 100000000 7
 //!     harness/run compare runs 1000000 11 300000000
+//!     harness/run compare items 10000000 1
 //!     harness/run vectors chaos
 //!
 //! Only a release build compares: Rust leaves open which zero `max` gives for −0 and 0, and a debug build gives another one than a release
