@@ -37,7 +37,7 @@ use Rattle.curves.specs.Given.{noPointCodes, noPathPointCodes}
 use Rattle.record.specs.Items.{f64-48000, blankPoint, blankPathPoint}
 use Rattle.record.specs.Reading.{lastX, item}
 use Rattle.record.specs.Writing.{itemBytes}
-use Rattle.record.specs.Kept.{keptShape, keptPath, kept}
+use Rattle.record.specs.Kept.{keptShape, kept}
 use Rattle.record.specs.Questions.{itemAnswer}
 use Rattle.record.specs.Records.{given, refused, unless, ended, wholeRecord, asked, readRecord, acceptedItem, writeRecord}
 use Rattle.record.specs.Promises.{SettingsTyped, ModTyped, PointTyped, PathPointTyped, ShapeTyped, PathTyped, Typed, Accepted, GivesBack, AcceptsWritten, OneRecord, CutShort, InFront}

@@ -4,7 +4,7 @@ use mathlib.Core.Path.{_≡_, refl}
 use mathlib.Core.Bool.{cond}
 use mathlib.Core.List.{List, [], _∷_, _++_, map}
 use lib.Dec.{leb}
-use lib.ListN.{length, replicate, take, drop, set, getD}
+use lib.ListN.{length, replicate, take, drop, set}
 use lib.Ieee.{Float, nan, ofBits, toBits, round, neg, lt, le}
 use Rattle.floatlaws.specs.Numbers.{f32, f64, f32-0, f32-½, f32-1, f32-100, f64-4, f64-120}
 use Rattle.floatlaws.specs.Extrema.{clampOf}
@@ -32,7 +32,7 @@ use Rattle.record.specs.Questions.{itemQuestions, itemAnswer}
 use Rattle.record.specs.Reading.{rate, span, smooth, settings, modulation, point, pathPoint, loopback, shape, path, scale, item}
 use Rattle.record.specs.Writing.{rateBytes, spanBytes, smoothBytes, settingsBytes, modulationBytes, pointBytes, pathPointBytes, loopbackBytes, shapeBytes, pathBytes, scaleBytes, itemBytes}
 use Rattle.record.specs.Kept.{keptRate, keptSpan, keptSmooth, keptSettings, keptLoopback, keptShape, keptPath, kept}
-use Rattle.record.specs.Records.{Answer, given, refused, ended, wholeRecord, asked, readRecord, writeQuestions, writeAnswer}
+use Rattle.record.specs.Records.{Answer, given, refused, ended, wholeRecord, asked, readRecord, writeRecord, writeQuestions, writeAnswer}
 
 rate-right : f64-48000 ≡ f64 48000 1
 unfolding ofBits round
@@ -45,7 +45,7 @@ first curve = record { x = f32-0; y = f32-1; curve = curve; step = 1; «x_mod» 
 abbrev second : PointCodes
 second = record { x = f32-½; y = f32-0; curve = f32-0; step = 0; «x_mod» = record { code = 1; bus = 200; depth = f32-1 }; «y_mod» = blankMod }
 
--- Some points with a loopback at the second, a closed path of one point with this x, all buses 0, seed 300, tempo 120, four beats per bar, no swing, 100 percent
+-- Some points with a loopback at the second, an open path of one point with this x, all buses 0, seed 300, tempo 120, four beats per bar, no swing, 100 percent
 with-curves : List PointCodes → Float → ItemCodes
 with-curves points x =
     record {
@@ -69,7 +69,7 @@ with-curves points x =
           record {
             points = record { x = x; y = f32-0; bend = f32-0; «x_mod» = blankMod; «y_mod» = blankMod } ∷ replicate 63 blankPathPoint;
             count = 1;
-            closed = 1;
+            closed = 0;
           };
       buses = replicate 16 f32-0;
       seed = 300;
@@ -113,7 +113,7 @@ abbrev faultOf : Parsed ItemCodes → ℕ
 faultOf (read i next) = 0
 faultOf (fault n) = n
 
--- no byte, one byte less, one byte more, mode 3, kind 0 in two bytes, 65 points, and an x below the one before
+-- no byte, one byte less, one byte more, mode 3, kind 0 in two bytes, 65 points before any is read, and an x below the one before
 faults : let s = itemBytes example in
     map (λ l. faultOf (wholeRecord l 0))
     ([]
@@ -121,7 +121,7 @@ faults : let s = itemBytes example in
     ∷ (s ++ (0 ∷ []))
     ∷ set s 1 3
     ∷ (0x80 ∷ 0x00 ∷ drop 1 s)
-    ∷ set s 20 65
+    ∷ (take 20 s ++ (65 ∷ []))
     ∷ itemBytes backwards
     ∷ [])
     ≡ 12 ∷ 12 ∷ 14 ∷ 13 ∷ 13 ∷ 13 ∷ 13 ∷ []
@@ -189,6 +189,13 @@ unfolding with-x with-curves readRecord asked wholeRecord ended item settings sh
     itemBytes settingsBytes shapeBytes pathBytes rateBytes spanBytes smoothBytes encoded groups toBits pointBytes pathPointBytes modulationBytes loopbackBytes scaleBytes rowBytes
     itemAnswer itemQuestions firstNo everyKept every settingsKnown transportKnown shapeKnown pathKnown pointKnown pathPointKnown settingsFinite shapeFinite pathFinite pointFinite pathPointFinite transportFinite loopbackIn pathOnPaper shapeOnGrid transportIn onPaper isMultiple clampOf lt round
 order = refl
+
+-- points are written as they are kept: sorted, and a curve of 3/2 as 1
+written : map writeRecord (backwards ∷ with-curve (f32 3 2) ∷ []) ≡ map (λ i. given (itemBytes i)) (example ∷ with-curve f32-1 ∷ [])
+unfolding example backwards with-curve with-curves writeRecord kept keptSettings keptRate keptSpan keptSmooth keptShape keptPath keptLoopback givenShape givenPath givenPoints givenPathPoints tabulate shapeOf pathOf sortedArray clampedPath pointOf pathPointOf modOf sortedPoints insertPoint inserted slotOf lastWhere clampedPoint clampedPathPoint
+    itemBytes settingsBytes shapeBytes pathBytes rateBytes spanBytes smoothBytes encoded groups toBits pointBytes pathPointBytes modulationBytes loopbackBytes scaleBytes rowBytes
+    itemAnswer itemQuestions firstNo everyKept every settingsKnown transportKnown shapeKnown pathKnown pointKnown pathPointKnown settingsFinite shapeFinite pathFinite pointFinite pathPointFinite transportFinite loopbackIn pathOnPaper shapeOnGrid transportIn onPaper isMultiple clampOf lt le ofBits neg round
+written = refl
 
 -- a buffer with no room for one byte: the questions come before 21
 room : map (λ i. writeAnswer i 0) (example ∷ with-x (f32 2 1) ∷ with-curve (f32 1 2048) ∷ []) ≡ 21 ∷ 11 ∷ 10 ∷ []
