@@ -1,0 +1,4 @@
+pub mod Accepted
+pub mod Left
+pub mod Again
+pub mod Exchanged
