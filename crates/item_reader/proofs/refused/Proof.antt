@@ -1,0 +1,10 @@
+-- `refused` meets its contract. Assumes nothing.
+use borrow.Author.Needs.{needs}
+use Rattle.item_reader.proofs.refused.Statement.{statement}
+use Rattle.item_reader.proofs.refused.Tie as tie
+
+returns : tie.Need-returns
+returns c = rw (c .blank-item .ensures)
+
+pub refused-spec : {M : Type 1} → statement M
+refused-spec = tie.close (tie.spec (λ c κs. search needs) returns)
