@@ -19,7 +19,7 @@ use Rattle.codes.specs.declared.PathCodes.{PathCodes}
 use Rattle.curves.specs.Given.{givenShape, givenPath}
 use Rattle.number.specs.declared.Writing.{Writing}
 use Rattle.number.specs.declared.Writing.the-variants.{Next, NoRoom}
-use Rattle.replies.specs.Replies.{bytesOf, Gives}
+use Rattle.replies.specs.Replies.{bytesOf, WritesAll}
 use Rattle.replies.proofs.Laws.{bytes-length}
 use Rattle.fields.specs.Bytes.{numberBytes, f32Bytes, f64Bytes, rowBytes}
 use Rattle.codes.specs.declared.ItemCodes.{ItemCodes}
@@ -86,13 +86,13 @@ module _ (i : ItemCodes) (typed : Typed i) (x l : List ℕ) (is : bytesOf l ≡ 
   promised false e = (rw (zero-is, e), rw (zero-is, e), rw (zero-is, e))
 
   -- and what was done
-  done : {r : Writing} {y : List ℕ} → Gives x 0 l r y → (t : Bool) → leb (length b) (length x) ≡ t
+  done : {r : Writing} {y : List ℕ} → WritesAll x 0 l r y → (t : Bool) → leb (length b) (length x) ≡ t
       → (r ≡ cond t (Next (length b)) NoRoom) × (y ≡ cond t (over x 0 b) x)
   done g t e =
       let plain : 0 + length b ≡ length b = omega arith in
       (rw (is, plain, e) at (g .answer), rw (is, plain, e) at (g .bytes))
 
-  pub is-written : {len : ℕ} {r : Writing} {y : List ℕ} → r ≡ Next len → Gives x 0 l r y → Writes i x (record { answer = 0; len = len }) y
+  pub is-written : {len : ℕ} {r : Writing} {y : List ℕ} → r ≡ Next len → WritesAll x 0 l r y → Writes i x (record { answer = 0; len = len }) y
   is-written {len} {r} {y} next g = by-room (leb (length b) (length x)) refl
     where
       by-room : (t : Bool) → leb (length b) (length x) ≡ t → Writes i x (record { answer = 0; len = len }) y
@@ -114,7 +114,7 @@ module _ (i : ItemCodes) (typed : Typed i) (x l : List ℕ) (is : bytesOf l ≡ 
           let z : _≡_ {A = ℕ} 0 1 = cc same in
           absurd (omega arith)
 
-  pub no-room : {r : Writing} {y : List ℕ} → r ≡ NoRoom → Gives x 0 l r y → Writes i x (record { answer = 21; len = 0 }) y
+  pub no-room : {r : Writing} {y : List ℕ} → r ≡ NoRoom → WritesAll x 0 l r y → Writes i x (record { answer = 21; len = 0 }) y
   no-room {r} {y} none g = by-room (leb (length b) (length x)) refl
     where
       by-room : (t : Bool) → leb (length b) (length x) ≡ t → Writes i x (record { answer = 21; len = 0 }) y

@@ -1,4 +1,6 @@
 -- The promises of specs/Promises.antt, from the round trip of an item. Assumes nothing.
+--     was-given          where something is given, the number is 0
+--     was-asked          where an item is given, it was read and its questions give 0
 --     gives-back         an accepted item, points as kept, is given back
 --     accepts-written    what the reader accepts is what the writer gives for that item
 --     one-record         so each item has one record
@@ -51,7 +53,7 @@ use Rattle.record.proofs.Answers.{Passed, passes, answers, keeps, loopb
 -- ---- answers
 
 module _ {A : Type 0} where
-  was-given : (n : ℕ) (a b : A) → unless n a ≡ given b → (n ≡ 0) × (a ≡ b)
+  pub was-given : (n : ℕ) (a b : A) → unless n a ≡ given b → (n ≡ 0) × (a ≡ b)
   was-given n a b h = by-test (eqb n 0) refl h
     where
       by-test : (t : Bool) → eqb n 0 ≡ t → cond t (given a) (refused n) ≡ given b → (n ≡ 0) × (a ≡ b)
@@ -138,7 +140,7 @@ sure i p =
       percent = finite-no-nan (i .scale .percent) (f .6);
     }
 
-was-asked : (x : Parsed ItemCodes) (i : ItemCodes) → asked x ≡ given i → (next : ℕ) × (x ≡ read i next) × (itemAnswer i ≡ 0)
+pub was-asked : (x : Parsed ItemCodes) (i : ItemCodes) → asked x ≡ given i → (next : ℕ) × (x ≡ read i next) × (itemAnswer i ≡ 0)
 unfolding asked
 was-asked (read j next) i h =
     let (accepted, is) = was-given (itemAnswer j) j i h in

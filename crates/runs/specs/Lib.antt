@@ -1,3 +1,4 @@
 pub mod Records
 pub mod Curves
+pub mod Items
 pub mod Vectors

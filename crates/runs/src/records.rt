@@ -143,7 +143,7 @@ pub fn read_settings(run: &[u8], from: Place) -> SettingsRead
     }
 }
 
-fn read_scale(run: &[u8], from: Place) -> ScaleRead
+pub fn read_scale(run: &[u8], from: Place) -> ScaleRead
     ensures { λ r. ⌜ Reads (scale (now (run .entry))) from (r .value) (r .next) ⌝ }
 {
     let code = read_number(run, from);

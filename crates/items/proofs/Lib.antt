@@ -1,0 +1,4 @@
+pub mod Within
+pub mod SameFields
+pub mod Answers
+pub mod Given

@@ -1,0 +1,3 @@
+pub mod Said
+pub mod Promises
+pub mod Vectors

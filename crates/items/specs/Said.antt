@@ -1,0 +1,46 @@
+-- What the exported functions answer, and what they leave in the buffer. Assumes nothing.
+use Prim.Native.Nat.{ℕ, _+_, _*_}
+use mathlib.Core.Path.{_≡_}
+use mathlib.Core.Bool.{cond}
+use mathlib.Core.List.{List}
+use lib.Dec.{eqb}
+use lib.ListN.{length}
+use Rattle.fields.specs.declared.reader.Place.{Place}
+use Rattle.fields.specs.Parser.{Parsed, read, fault, Parser, _then_}
+use Rattle.codes.specs.declared.ItemCodes.{ItemCodes}
+use Rattle.runs.specs.Items.{item}
+use Rattle.record.specs.Records.{Answer, given, refused, ended, writeAnswer, writtenLength, writtenTo}
+
+-- ---- an item handed in
+
+-- the number of bytes that make no item, and of bytes left over
+abbrev pub malformed : ℕ
+malformed = 255
+
+unfoldable pub orMalformed : Parsed ItemCodes → Answer ItemCodes
+orMalformed (read i next) = given i
+orMalformed (fault n) = refused malformed
+
+-- the item that bytes make in RUN.md's numbers, with nothing behind it
+unfoldable pub handedIn : List ℕ → Answer ItemCodes
+handedIn s = orMalformed (_then_ item ended s 0)
+
+-- 0 where `len` bytes were read to their end
+abbrev pub wholeAnswer : Place → ℕ → ℕ
+wholeAnswer next len = cond (eqb (next .fault) 0) (cond (eqb (next .at) len) 0 malformed) malformed
+
+-- ---- an item written into a buffer, or a refusal, which leaves every byte
+
+-- the number, and 256 times the length of what was written into a buffer of `room` bytes
+abbrev pub said : Answer ItemCodes → ℕ → ℕ
+said (given i) room = writeAnswer i room + 256 * writtenLength i room
+said (refused n) room = n
+
+abbrev pub left : Answer ItemCodes → List ℕ → List ℕ
+left (given i) x = writtenTo i x
+left (refused n) x = x
+
+-- of what was given or refused: the answer r, and the buffer x, which is then y
+pub record Says (a : Answer ItemCodes) (x : List ℕ) (r : ℕ) (y : List ℕ) : Type 0 where
+  pub answer : r ≡ said a (length x)
+  pub bytes : y ≡ left a x
