@@ -1,5 +1,5 @@
-//! The functions of crates/exports and `lfo_run`, each in a safe wrapper of its own name. None of them asks anything of its arguments: each is
-//! proved to end and to read and write within its slices only, whatever they hold, so every call is sound.
+//! The functions of crates/exports, `lfo_run`, `lfo_item_read` and `lfo_item_write`, each in a safe wrapper of its own name. None of them asks
+//! anything of its arguments: each is proved to end and to read and write within its slices only, whatever they hold, so every call is sound.
 
 /// `name(number: type, ..) -> result`
 macro_rules! on_numbers {
@@ -64,7 +64,6 @@ pub fn lfo_run(run: &[u8], out: &mut [u8]) -> u64 {
     unsafe { runner::lfo_run(run.as_ptr(), run.len(), out.as_mut_ptr(), out.len()) }
 }
 
-#[cfg(feature = "items")]
 mod item {
     unsafe extern "C" {
         pub fn lfo_item_read(_: *const u8, _: usize, _: *mut u8, _: usize) -> u64;
@@ -72,14 +71,13 @@ mod item {
     }
 }
 
-/// The number of a record and, where it is 0, its item's numbers.
-#[cfg(feature = "items")]
+/// `lfo_item_read` of crates/items: the number that reading a record gives, and 256 times the length of the item's numbers, which stand at the front
+/// of `out`.
 pub fn lfo_item_read(record: &[u8], out: &mut [u8]) -> u64 {
     unsafe { item::lfo_item_read(record.as_ptr(), record.len(), out.as_mut_ptr(), out.len()) }
 }
 
-/// The number of an item and, where it is 0, the length of its record and the record.
-#[cfg(feature = "items")]
+/// `lfo_item_write` of crates/items: the number that writing an item gives, and 256 times the length of the record, which stands at the front of `out`.
 pub fn lfo_item_write(item: &[u8], out: &mut [u8]) -> u64 {
     unsafe { item::lfo_item_write(item.as_ptr(), item.len(), out.as_mut_ptr(), out.len()) }
 }

@@ -1,11 +1,14 @@
 //! Reading and writing of items by the C functions against items.rs, every byte of `out`; and items.rs against what a record was made for.
+use crate::ffi::{lfo_item_read, lfo_item_write};
 use crate::item_examples;
 use crate::item_figures::{Figures, failing};
 use crate::item_values::{
-    Change, Effect, accepted, changes, longest, malformed, refuse, replaced, room, shortest,
+    Change, Effect, accepted, changes, long_enough, longest, malformed, refuse, replaced, room,
+    shortest, too_short,
 };
 use crate::items::{
-    self, Cause, Fault, Item, NO_ROOM, Placed, ROOM, Read, bytes, handed, kept, numbers_of,
+    self, Cause, Fault, Given, Item, MALFORMED, NO_ROOM, Placed, Read, SHORTEST, answered, bytes,
+    handed, kept, numbers_of,
 };
 use crate::progress::Progress;
 use crate::questions::{self, ITEM};
@@ -13,31 +16,12 @@ use crate::runs::hex;
 use crate::values::Values;
 use std::collections::BTreeMap;
 
+/// One of the two C functions.
 type Function = fn(&[u8], &mut [u8]) -> u64;
-
-/// The two functions that are compared with items.rs.
-struct Side {
-    read: Function,
-    write: Function,
-}
-
-#[cfg(feature = "items")]
-const SIDE: Side = Side {
-    read: crate::ffi::lfo_item_read,
-    write: crate::ffi::lfo_item_write,
-};
-/// Without the C functions items.rs stands in for them, so that it is held to itself alone.
-#[cfg(not(feature = "items"))]
-const SIDE: Side = Side {
-    read: items::stand_in::item_read,
-    write: items::stand_in::item_write,
-};
 
 /// What an element of `out` holds before a call.
 const BEFORE: u8 = 0xa5;
-/// So much longer than needed is `out`.
-const BEHIND: usize = 40;
-/// The most bytes that are shown of a record or an item that differs.
+/// The most bytes that are shown of a record, of an item and of `out`.
 const SHOWN: usize = 2000;
 /// The items of a round.
 const ITEMS: u64 = 20;
@@ -62,6 +46,11 @@ struct Comparison {
 
 // ---- one call
 
+/// The length of `out` that a function needs. Of a refused item it is any that a record may have.
+fn needed(given: &Given) -> usize {
+    given.as_ref().map_or(100, Vec::len)
+}
+
 impl Comparison {
     fn differs(&mut self, what: &str, input: &[u8], other: &str) {
         self.differed += 1;
@@ -73,87 +62,98 @@ impl Comparison {
         }
     }
 
-    // `out` is longer than it must be, now and then just as long, or too short.
-    fn call(&mut self, what: &str, function: Function, input: &[u8], wanted: &[u8]) {
-        let long = match self.v.below(64) {
-            0 => wanted.len(),
-            1 => self.v.index(wanted.len()),
-            _ => wanted.len() + BEHIND,
-        };
-        let written: &[u8] = if long < wanted.len() { &[] } else { wanted };
-        self.figures.short += u64::from(long < wanted.len());
-        self.out.resize(self.out.len().max(long), 0);
-        let out = &mut self.out[..long];
+    /// Calls a function with an `out` of `room` bytes; `given` is what must come of a long one. Answers the number that must come.
+    fn call(&mut self, f: Function, what: &str, input: &[u8], room: usize, given: Given) -> u64 {
+        let wanted = items::within(room, given);
+        let (answer, bytes) = (answered(&wanted), wanted.unwrap_or_default());
+        self.figures.short += u64::from(answer == NO_ROOM);
+        self.out.resize(self.out.len().max(room), 0);
+        let out = &mut self.out[..room];
         out.fill(BEFORE);
-        let size = function(input, out) as usize;
-        let (front, behind) = out.split_at(written.len());
-        if size != written.len() || front != written || behind.iter().any(|b| *b != BEFORE) {
-            let got = hex(&out[..size.min(long).min(SHOWN)]);
-            let wanted = hex(&written[..written.len().min(SHOWN)]);
-            let other = format!("gives {size} of {long} bytes: {got}; wanted {wanted}");
+        let got = f(input, out);
+        let (front, behind) = out.split_at(bytes.len());
+        if got != answer || front != bytes || behind.iter().any(|b| *b != BEFORE) {
+            let left = hex(&out[..room.min(SHOWN)]);
+            let wanted = hex(&bytes[..bytes.len().min(SHOWN)]);
+            let other = format!("answers {got}, out {left}; wanted {answer} and in front {wanted}");
             self.differs(what, input, &other);
         }
+        answer % 256
     }
 
     /// Reads a record on both sides, and writes it again where it is accepted.
     fn read(&mut self, record: &[u8]) -> Read {
         self.records += 1;
         let read = items::read(record);
-        self.call("read", SIDE.read, record, &items::reading_gives(&read));
-        self.figures.read.answer(read.answer());
+        let room = match &read {
+            Read::Item(_) => long_enough(&mut self.v, record.len()),
+            _ => room(&mut self.v, record.len().max(SHORTEST)),
+        };
+        let given = items::read_given(&read);
+        let number = self.call(lfo_item_read, "read", record, room, given);
+        self.figures.read.answer(number);
+        let short = room < SHORTEST;
         match &read {
-            Read::Item(item) => self.write_again(item, record),
-            Read::Fault(fault) => self.figures.fault(*fault),
-            Read::Refused(number, item) => {
-                self.figures.read.failed(*number, &failing(item), false);
+            Read::Item(item) => self.accepted(item, record),
+            Read::Fault(fault) => {
+                self.figures.fault(*fault);
+                self.figures.read.failed(number, &[], short);
             }
+            Read::Refused(_, item) => self.figures.read.failed(number, &failing(item), short),
         }
         read
     }
 
-    fn write_again(&mut self, item: &Item, record: &[u8]) {
+    // Writes an accepted record again; now and then reads and writes it with an `out` that is too short.
+    fn accepted(&mut self, item: &Item, record: &[u8]) {
         self.figures.again += 1;
         if &kept(item) != item || bytes(item) != record {
             self.differs("own record", record, "not the one record of its item");
         }
-        let room = record.len() as u64;
-        let wanted = items::writing_gives(&Ok(record.to_vec()));
-        self.call("write again", SIDE.write, &handed(item, room), &wanted);
+        let (input, given) = (handed(item), || Ok(record.to_vec()));
+        let room = long_enough(&mut self.v, record.len());
+        self.call(lfo_item_write, "write again", &input, room, given());
         if self.v.one_in(16) {
-            let wanted = items::writing_gives(&Err(NO_ROOM));
-            let any = self.v.below(room);
-            let room = self.v.of(&[room - 1, any]);
-            self.call("write", SIDE.write, &handed(item, room), &wanted);
+            let room = too_short(&mut self.v, record.len());
+            self.call(lfo_item_write, "write again", &input, room, given());
+            let room = too_short(&mut self.v, record.len());
+            let number = self.call(lfo_item_read, "read", record, room, given());
+            self.figures.read.answer(number);
         }
     }
 
-    /// Hands an item to both writers; its record, where it is accepted.
+    /// Hands an item to both writers; its record, where there is one.
     fn write(&mut self, item: &Item) -> Option<Vec<u8>> {
         self.items += 1;
-        let needed = items::write(item, ROOM).map_or(100, |record| record.len() as u64);
-        let room = room(&mut self.v, needed);
-        let written = items::write(item, room);
-        let input = handed(item, room);
-        self.call("write", SIDE.write, &input, &items::writing_gives(&written));
+        let (input, given) = (handed(item), items::write(item));
+        let room = room(&mut self.v, needed(&given));
+        let number = self.call(lfo_item_write, "write", &input, room, given.clone());
         self.figures.handed(item);
-        self.figures
-            .written
-            .answer(written.as_ref().err().copied().unwrap_or(0));
+        self.figures.written.answer(number);
         let failing = failing(item);
         let first = ITEM.into_iter().find(|n| failing.iter().any(|f| f.0 == *n));
         if first.unwrap_or(0) != questions::item(item) {
             self.differs("own questions", &input, &format!("{failing:?}"));
         }
-        match (written, first) {
-            (Ok(record), _) => {
-                self.figures.accepted(item);
-                Some(record)
-            }
-            (Err(number), Some(_)) => {
-                self.figures.written.failed(number, &failing, room == 0);
-                None
-            }
-            _ => None,
+        if number == 0 {
+            self.figures.accepted(item);
+        } else if number != NO_ROOM {
+            let short = room < SHORTEST;
+            self.figures.written.failed(number, &failing, short);
+        }
+        given.ok()
+    }
+
+    /// Bytes that are made of an item and may hand one in or not.
+    fn hand(&mut self, input: &[u8], item: &Item) {
+        self.items += 1;
+        let given = items::written(input);
+        let room = room(&mut self.v, needed(&given));
+        let number = self.call(lfo_item_write, "write", input, room, given);
+        self.figures.written.answer(number);
+        if number == MALFORMED {
+            let short = room < SHORTEST;
+            self.figures.written.failed(number, &failing(item), short);
         }
     }
 }
@@ -343,10 +343,10 @@ impl Comparison {
         self.write(&wrong);
         self.read(&bytes(&wrong));
         let input = malformed(&mut self.v, &wrong);
-        if items::written(&input) != Err(items::MALFORMED) {
+        if items::written(&input) != Err(MALFORMED) {
             self.differs("own item", &input, "not malformed");
         }
-        self.hand(&input);
+        self.hand(&input, &wrong);
         self.spoil(&wrong);
     }
 
@@ -366,7 +366,7 @@ impl Comparison {
             true => over.shape.points.resize(4097, p),
             false => over.path.points.resize(4097, q),
         }
-        self.hand(&handed(&over, ROOM));
+        self.hand(&handed(&over), &over);
         self.past_64(kept(&item));
     }
 
@@ -387,18 +387,9 @@ impl Comparison {
         );
     }
 
-    // Bytes that may hand an item in or not.
-    fn hand(&mut self, input: &[u8]) {
-        self.items += 1;
-        let written = items::written(input);
-        let answer = written.as_ref().err().copied().unwrap_or(0);
-        self.figures.written.answer(answer);
-        self.call("write", SIDE.write, input, &items::writing_gives(&written));
-    }
-
     // A byte changed, taken away or put in.
     fn spoil(&mut self, item: &Item) {
-        let mut input = handed(item, ROOM);
+        let mut input = handed(item);
         let (i, any) = (self.v.index(input.len()), self.v.word() as u8);
         match self.v.below(4) {
             0 => {
@@ -411,7 +402,7 @@ impl Comparison {
                     .of(&[0, 1, 2, 0x7f, 0x80, 0xff, any, input[i] ^ 0x80])
             }
         }
-        self.hand(&input);
+        self.hand(&input, item);
     }
 
     fn damage(&mut self, seed: u64, whole: bool) {
@@ -483,9 +474,6 @@ impl Comparison {
             self.records as f64 / seconds
         );
         print!("{}", self.figures);
-        if cfg!(not(feature = "items")) {
-            println!("  the C functions are not linked: items.rs was held to itself");
-        }
         let missing = self.figures.missing();
         if !missing.is_empty() {
             println!("  what did not occur: {}", missing.join(", "));
@@ -494,7 +482,8 @@ impl Comparison {
     }
 }
 
-/// Compares at least so many records; round i has the seed SEED + i, so that `compare items 1 S` makes the round of seed S alone. Answers whether all is equal and, of 1,000,000 records or more, every kind occurred.
+/// Compares at least so many records; round i has the seed SEED + i, so that `compare items 1 S` makes the round of seed S alone. Answers whether all
+/// is equal and, of 1,000,000 records or more, every kind occurred.
 pub fn compare(wanted: u64, seed: u64) -> bool {
     let mut c = Comparison {
         seed,

@@ -1,5 +1,5 @@
 //! The records of examples/, and the fields of a record beside its bytes as docs/RECORD.md has them.
-use crate::items::{self, Field, Holds, Item, Placed, ROOM, Read, holds, kept, numbers_of};
+use crate::items::{self, Field, Holds, Item, Placed, Read, holds, kept, numbers_of};
 use crate::lfo::{Direction, Division, Feel, LfoType, Mode, Rate, Settings, Span};
 use crate::player::bits;
 use crate::run::{self, Present, Scale, Shape, settings_bits};
@@ -114,7 +114,7 @@ pub fn all() -> [(&'static str, Item); 3] {
 }
 
 fn record(item: &Item) -> Vec<u8> {
-    items::write(item, ROOM).expect("an item that is accepted")
+    items::write(item).expect("an item that is accepted")
 }
 
 /// Writes the three records. Answers whether each is read back as its item.

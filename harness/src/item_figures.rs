@@ -107,7 +107,8 @@ fn may_fail(field: Field, number: u64, read: bool) -> bool {
 
 // ---- the counts
 
-/// Of reading or of writing: answers; those that a later question or 21 would give too; fields that fail the question answered.
+/// Of reading or of writing: answers; those that a later question or 21 would give too, of 255 by the item that the bytes were made of; fields that fail
+/// the question answered.
 #[derive(Default)]
 pub struct Asked {
     answers: BTreeMap<u64, u64>,
@@ -120,7 +121,7 @@ impl Asked {
         *self.answers.entry(number).or_default() += 1;
     }
 
-    /// The questions that a refused item fails, by field; `short`, where the buffer is too short too.
+    /// The questions that a refused item fails, by field; `short`, where `out` is too short too, whatever the item.
     pub fn failed(&mut self, answer: u64, failing: &[(u64, Field)], short: bool) {
         for n in ITEM {
             if n != answer && failing.iter().any(|f| f.0 == n) {
@@ -135,23 +136,20 @@ impl Asked {
         }
     }
 
+    // In the order in which they come: the numbers by the bytes, those of the questions, 21. Bytes that are no record have no item to fail a question.
     fn missing(&self, name: &str, read: bool) -> Vec<String> {
+        let by_bytes: &[u64] = if read { &[12, 13, 14] } else { &[255] };
+        let order = [by_bytes, &ITEM[usize::from(read)..], &[21]].concat();
         let mut missing = vec![];
-        let own: &[u64] = if read {
-            &[0, 12, 13, 14]
-        } else {
-            &[0, 21, 255]
-        };
-        let asked = &ITEM[usize::from(read)..];
-        for n in own.iter().chain(asked) {
+        for n in order.iter().chain(&[0]) {
             if !self.answers.contains_key(n) {
                 missing.push(format!("{name} {n}"));
             }
         }
-        for (i, n) in asked.iter().enumerate() {
-            let room: &[u64] = if read { &[] } else { &[21] };
-            for later in asked[i + 1..].iter().chain(room) {
-                if !self.pairs.contains_key(&(*n, *later)) {
+        for (i, n) in order.iter().enumerate() {
+            for later in &order[i + 1..] {
+                let no_item = read && by_bytes.contains(n) && *later != 21;
+                if !no_item && !self.pairs.contains_key(&(*n, *later)) {
                     missing.push(format!("{name} {n} with {later}"));
                 }
             }
@@ -215,7 +213,7 @@ pub struct Figures {
     pub two: u64,
     /// Accepted records, each written again.
     pub again: u64,
-    /// Calls whose `out` was too short.
+    /// Calls that answer 21.
     pub short: u64,
 }
 

@@ -1,6 +1,6 @@
 //! Adverse items and damaged records, the same for the same seed. Of a damaged record it is known how it was damaged, and so what must come of it.
 use crate::adverse::Adverse;
-use crate::items::{self, Cause, Field, Holds, Item, Placed, ROOM, holds};
+use crate::items::{self, Cause, Field, Holds, Item, Placed, SHORTEST, holds};
 use crate::lfo::MAX_POINTS;
 use crate::player::bits;
 use crate::questions::{self, item_transport};
@@ -139,7 +139,7 @@ pub fn shortest() -> (Item, usize) {
         swing: 0,
         scale: Scale::Percent(0),
     };
-    (item, 48)
+    (item, SHORTEST)
 }
 
 /// An item of the longest record, and how long it is: every float −0 where it may be, 64 points a curve, everything there.
@@ -206,13 +206,27 @@ pub fn refuse(v: &mut Values, item: &mut Item) {
 
 // ---- items as bytes
 
-/// The length of the writer's buffer: as the record needs it, one byte less, none, the most.
-pub fn room(v: &mut Values, needed: u64) -> u64 {
-    let any = v.below(needed + 1);
-    match v.below(8) {
-        0 => v.of(&[needed.saturating_sub(1), 0, 1, any]),
-        1 => v.of(&[needed + 1, ROOM]),
-        _ => needed,
+/// The length of a buffer too short for so many bytes: one byte less, none, any.
+pub fn too_short(v: &mut Values, needed: usize) -> usize {
+    let any = v.index(needed);
+    v.of(&[needed - 1, needed - 1, 0, 1, any])
+}
+
+/// The length of a buffer for so many bytes: just as long, a byte longer, longer, now and then much longer.
+pub fn long_enough(v: &mut Values, needed: usize) -> usize {
+    match v.below(64) {
+        0..16 => needed,
+        16..20 => needed + 1,
+        20 => needed + 16_384,
+        _ => needed + 40,
+    }
+}
+
+/// The length of a buffer for so many bytes, of eight one too short.
+pub fn room(v: &mut Values, needed: usize) -> usize {
+    match v.one_in(8) {
+        true => too_short(v, needed),
+        false => long_enough(v, needed),
     }
 }
 
@@ -254,34 +268,29 @@ pub fn malformed(v: &mut Values, item: &Item) -> Vec<u8> {
     let mut numbers = Numbers::item(item);
     let mut fields = vec![];
     items::each_field(item, &mut |field, _| fields.push(field));
-    let mut bytes = bytes_of(&[v.of(&[0, 300, ROOM])]);
     let i = v.index(numbers.len());
-    match v.below(6) {
+    match v.below(5) {
         0 => {
-            bytes.extend(bytes_of(&numbers));
+            let mut bytes = bytes_of(&numbers);
             bytes.truncate(v.index(bytes.len()));
             return bytes;
         }
         1 => numbers.extend((0..1 + v.below(3)).map(|_| v.number())),
-        2 => bytes = bytes_of(&[v.of(&[ROOM + 1, ROOM + 2, 1 << 32, u64::MAX])]),
-        3 => {
+        2 => {
             let count = v.of(&[Field::ShapeCount, Field::PathCount]);
             let at = fields.iter().position(|f| *f == count).unwrap_or(0);
             numbers[at] = v.of(&[4097, 4098, 65_536, 1 << 32, u64::MAX]);
         }
         way => {
             let there = match way {
-                4 => longer(v, numbers[i]),
+                3 => longer(v, numbers[i]),
                 _ => larger(v, numbers[i], bits_of(fields[i])),
             };
-            bytes.extend(bytes_of(&numbers[..i]));
-            bytes.extend(there);
-            bytes.extend(bytes_of(&numbers[i + 1..]));
-            return bytes;
+            let (before, behind) = (bytes_of(&numbers[..i]), bytes_of(&numbers[i + 1..]));
+            return [before, there, behind].concat();
         }
     }
-    bytes.extend(bytes_of(&numbers));
-    bytes
+    bytes_of(&numbers)
 }
 
 // ---- damaged records

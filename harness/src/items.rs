@@ -1,5 +1,5 @@
-//! An item and its record (document 02, W-203): a reader and a writer of our own, written from 02's words alone. `reading_gives` and
-//! `writing_gives` make of them what the two C functions are to put out.
+//! An item and its record (document 02, W-203): a reader and a writer of our own, written from 02's words alone. `read_given`, `written` and
+//! `within` say what the two C functions must give.
 use crate::lfo;
 use crate::player::{path_points, shape_of};
 use crate::questions;
@@ -12,11 +12,11 @@ use Cause::*;
 use Field::*;
 
 pub const BUSES: usize = 16;
-/// The longest buffer that may be handed to the writer.
-pub const ROOM: u64 = 16_384;
-/// What the writer's function gives for bytes that are no item.
+/// The length of the shortest record.
+pub const SHORTEST: usize = 48;
+/// The number of bytes that hand no item to the writer.
 pub const MALFORMED: u64 = 255;
-/// The number of a buffer too short for the record.
+/// The number of a buffer that is too short.
 pub const NO_ROOM: u64 = 21;
 
 /// Codes are any numbers and floats their bits, so that an item can hold what no record has.
@@ -584,79 +584,52 @@ pub fn kept(item: &Item) -> Item {
     }
 }
 
-/// The record of an item, by a writer with a buffer of so many bytes, or the number of its refusal: the questions first, then 21.
-pub fn write(item: &Item, room: u64) -> Result<Vec<u8>, u64> {
-    let answer = questions::item(item);
-    if answer != 0 {
-        return Err(answer);
-    }
-    let record = bytes(&kept(item));
-    if record.len() as u64 > room {
-        return Err(NO_ROOM);
-    }
-    Ok(record)
-}
-
-// ---- the two functions, as the C functions are to be
-
-/// What reading gives: the number and, where it is 0, the item's numbers.
-pub fn reading_gives(read: &Read) -> Vec<u8> {
-    let mut out = bytes_of(&[read.answer()]);
-    if let Read::Item(item) = read {
-        out.extend(bytes_of(&Numbers::item(item)));
-    }
-    out
-}
-
-/// What writing gives: the number and, where it is 0, the record's length and its bytes.
-pub fn writing_gives(written: &Result<Vec<u8>, u64>) -> Vec<u8> {
-    match written {
-        Err(number) => bytes_of(&[*number]),
-        Ok(record) => {
-            let mut out = bytes_of(&[0, record.len() as u64]);
-            out.extend(record);
-            out
-        }
+/// The record of an item, or the number of the question that refuses it.
+pub fn write(item: &Item) -> Given {
+    match questions::item(item) {
+        0 => Ok(bytes(&kept(item))),
+        number => Err(number),
     }
 }
 
-/// The bytes that hand an item to the writer. The first number is `room`, the length of the buffer that the writer gets, at most 16,384: so 21 is
-/// tried with no regard to `out`. Then the item's numbers.
-pub fn handed(item: &Item, room: u64) -> Vec<u8> {
-    let mut bytes = bytes_of(&[room]);
-    bytes.extend(bytes_of(&Numbers::item(item)));
-    bytes
+// ---- the two C functions
+
+/// What a function gives: the bytes at the front of its buffer or, with no byte written, a number that is not 0.
+pub type Given = Result<Vec<u8>, u64>;
+
+/// An item as its numbers, in the form of docs/RUN.md.
+pub fn handed(item: &Item) -> Vec<u8> {
+    bytes_of(&Numbers::item(item))
 }
 
-/// What comes of bytes that hand an item to the writer, or fail to.
-pub fn written(bytes: &[u8]) -> Result<Vec<u8>, u64> {
+/// What reading gives with a buffer that is long enough: the item's numbers.
+pub fn read_given(read: &Read) -> Given {
+    match read {
+        Read::Item(item) => Ok(handed(item)),
+        _ => Err(read.answer()),
+    }
+}
+
+/// What comes, with a buffer that is long enough, of bytes that hand an item to the writer or fail to.
+pub fn written(bytes: &[u8]) -> Given {
     match reading::handed(bytes) {
         None => Err(MALFORMED),
-        Some((item, room)) => write(&item, room),
+        Some(item) => write(&item),
     }
 }
 
-/// What stands in for the C functions until they are linked.
-#[cfg(not(feature = "items"))]
-pub mod stand_in {
-    use super::{read, reading_gives, writing_gives, written};
-
-    // As for a run: where `out` is too short for all of it, nothing is written and the answer is 0.
-    fn put(out: &mut [u8], bytes: &[u8]) -> u64 {
-        match out.get_mut(..bytes.len()) {
-            None => 0,
-            Some(place) => {
-                place.copy_from_slice(bytes);
-                bytes.len() as u64
-            }
-        }
+/// The same with a buffer of so many bytes: 21 comes after every other number.
+pub fn within(room: usize, given: Given) -> Given {
+    match given {
+        Ok(bytes) if bytes.len() > room => Err(NO_ROOM),
+        _ => given,
     }
+}
 
-    pub fn item_read(record: &[u8], out: &mut [u8]) -> u64 {
-        put(out, &reading_gives(&read(record)))
-    }
-
-    pub fn item_write(item: &[u8], out: &mut [u8]) -> u64 {
-        put(out, &writing_gives(&written(item)))
+/// The number that a function answers: that of what it gives, and 256 times the length of its bytes.
+pub fn answered(given: &Given) -> u64 {
+    match given {
+        Ok(bytes) => 256 * bytes.len() as u64,
+        Err(number) => *number,
     }
 }

@@ -1,5 +1,5 @@
-//! Holds the Rattle crates to the Rust source, bit by bit, any two NaN being equal; and writes the vectors that programs of the repository
-//! are held to. `run` beside this folder builds it, with the libraries that it links:
+//! Holds the Rattle crates to the Rust source, bit by bit, any two NaN being equal, and what reads and writes items to items.rs; and writes the
+//! vectors that programs of the repository are held to. `run` beside this folder builds it, with the libraries that it links:
 //!
 //!     harness/run compare all
 //!     harness/run compare floats 100000000 7
@@ -36,6 +36,7 @@ mod shrunk;
 mod simd;
 mod spoiled;
 mod stored;
+mod stored_items;
 mod tally;
 mod values;
 mod vectors;
@@ -75,8 +76,8 @@ Of runs, COUNT is the least number of runs and FRAMES of frames; run i has the s
 /// The runs of a short comparison.
 const RUNS: u64 = 100_000;
 
-/// The records of a comparison of items.
-const RECORDS: u64 = 10_000_000;
+/// The records of a short comparison.
+const RECORDS: u64 = 1_000_000;
 
 fn number(word: &str) -> u64 {
     word.replace('_', "").parse().unwrap_or_else(|_| usage())
@@ -113,7 +114,7 @@ fn compare(subject: &str, count: Option<u64>, seed: u64) -> bool {
         usage();
     }
     if subject == "all" {
-        right &= !cfg!(feature = "items") || items(&[]);
+        right &= items(&[]);
         right &= runs(&[]);
     }
     println!(

@@ -1,5 +1,5 @@
 //! Reads the calls of a run from its bytes, by docs/RUN.md alone, and an item that is handed to the writer. Nothing comes of bytes that are malformed.
-use crate::items::{BUSES, Item, ROOM};
+use crate::items::{BUSES, Item};
 use crate::run::{
     Block, Call, Mod, Path, PathPoint, Point, Present, Rate, Scale, Settings, Shape, Span,
     Transport,
@@ -226,10 +226,9 @@ impl<'a> Reader<'a> {
     }
 }
 
-/// The item that bytes hand to the writer, and the length of the writer's buffer.
-pub fn handed(bytes: &[u8]) -> Option<(Item, u64)> {
+/// The item that bytes hand to the writer.
+pub fn handed(bytes: &[u8]) -> Option<Item> {
     let mut reader = Reader::new(bytes);
-    let room = reader.at_most(ROOM)?;
     let item = reader.item()?;
-    reader.at_end().then_some((item, room))
+    reader.at_end().then_some(item)
 }

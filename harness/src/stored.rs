@@ -1,5 +1,6 @@
-//! The runs that the program `replay` plays with no Rust at hand: `harness vectors runs ../crates/replay` writes its files `stdin`, the runs, and
-//! `stdout`, what comes out. Each run is made here for what it shows; the answers are the reference's (reference.rs).
+//! The runs that the program `replay` plays with no Rust at hand: `harness vectors runs ../crates/replay` writes its files `stdin`, the runs and behind
+//! them records and items (stored_items.rs), and `stdout`, what comes out. Each run is made here for what it shows; the answers are the reference's
+//! (reference.rs).
 use crate::adverse::{Adverse, coefficient, made};
 use crate::figures::{Figures, MAKE};
 use crate::lfo::{Direction, Division, Feel, LfoType, Mode, Rate, Scale, Settings, Span};
@@ -10,7 +11,7 @@ use crate::run::{Call, Path as RunPath, Point, Present, Shape, settings_bits};
 use crate::runs::hex;
 use crate::values::{DIRECTIONS, FEELS, KINDS, MODES, Values};
 use crate::written::{Written, bent, bowed, eighth, hertz, moved, path, point, synced};
-use crate::{refused, spoiled};
+use crate::{refused, spoiled, stored_items};
 use std::fs;
 use std::path::Path;
 
@@ -663,19 +664,29 @@ fn adverse(list: &mut List) {
     }
 }
 
-/// A run with the length of the output that it is given.
-struct Stored {
-    bytes: Vec<u8>,
-    room: usize,
+/// The kind of a stored run.
+const RUN: u8 = 0;
+
+/// A run, a record or an item, with the length of the output that it is given.
+pub struct Stored {
+    kind: u8,
+    pub bytes: Vec<u8>,
+    pub room: usize,
 }
 
 impl Stored {
-    /// Both lengths, two bytes each, lower first, and the run.
+    pub fn new(kind: u8, bytes: &[u8], room: usize) -> Self {
+        let bytes = bytes.to_vec();
+        Self { kind, bytes, room }
+    }
+
+    /// Both lengths, two bytes each, lower first, the kind and the bytes.
     fn stdin(&self) -> Vec<u8> {
         let length = |n: usize| u16::try_from(n).unwrap().to_le_bytes();
         [
             &length(self.bytes.len())[..],
             &length(self.room)[..],
+            &[self.kind],
             &self.bytes[..],
         ]
         .concat()
@@ -696,8 +707,7 @@ fn with_room(list: &[Vec<u8>], figures: &mut Figures) -> Vec<(Stored, Vec<u8>)> 
         };
         for room in rooms {
             let out = played.out[..played.fits(room)].to_vec();
-            let bytes = bytes.clone();
-            stored.push((Stored { bytes, room }, out));
+            stored.push((Stored::new(RUN, bytes, room), out));
         }
     }
     stored
@@ -726,12 +736,17 @@ pub fn runs(dir: &Path) {
     malformed(&mut list);
     adverse(&mut list);
     let mut figures = Figures::default();
-    let stored = with_room(&list, &mut figures);
+    let mut stored = with_room(&list, &mut figures);
+    let runs = stored.len();
+    stored.extend(stored_items::all());
     let stdin: Vec<u8> = stored.iter().flat_map(|(s, _)| s.stdin()).collect();
     let stdout: String = stored.iter().map(|(_, out)| hex(out) + "\n").collect();
     fs::write(dir.join("stdin"), &stdin).unwrap();
     fs::write(dir.join("stdout"), &stdout).unwrap();
-    let sizes = (stdin.len(), stdout.len());
-    eprintln!("{} runs, {} and {} bytes", stored.len(), sizes.0, sizes.1);
+    let (items, sizes) = (stored.len() - runs, (stdin.len(), stdout.len()));
+    eprintln!(
+        "{runs} runs, {items} records and items, {} and {} bytes",
+        sizes.0, sizes.1
+    );
     eprint!("{figures}");
 }
