@@ -6,7 +6,7 @@ use mathlib.Core.List.{List}
 use lib.Dec.{eqb}
 use lib.ListN.{length, take}
 use Rattle.fields.specs.declared.reader.Place.{Place}
-use Rattle.fields.specs.Parser.{Parsed, read, fault, Parser, _then_}
+use Rattle.fields.specs.Parser.{Parsed, read, fault, _then_}
 use Rattle.codes.specs.declared.ItemCodes.{ItemCodes}
 use Rattle.runs.specs.Items.{item}
 use Rattle.record.specs.Kept.{kept}
