@@ -29,6 +29,7 @@ use Rattle.record.specs.Questions.{itemAnswer}
 use Rattle.record.specs.Promises.{Typed}
 use Rattle.record.specs.Records.{given, readRecord, writeRecord, writeAnswer, writtenLength, writtenTo}
 use Rattle.record.proofs.KeptSettings.{settings-bytes, loopback-bytes}
+use Rattle.record.proofs.Answers.{write-answer}
 use Rattle.record.proofs.RoundTrips.{gives-back}
 use Rattle.item_writer.specs.Numbers.{Adds, frontBytes}
 use Rattle.item_writer.specs.Written.{Writes}
@@ -61,10 +62,11 @@ item-put i a = (rw (settings-bytes (i .settings)) (a .bytes), omega (arith, a .f
 
 -- a refusal by the questions
 pub not-asked-for : (i : ItemCodes) → Typed i → (x : List ℕ) {n : ℕ} → n ≡ itemAnswer i → (n ≡ 0 → ⊥) → Writes i x (record { answer = n; len = 0 }) x
-unfolding writeAnswer writtenLength writtenTo
+unfolding writtenLength writtenTo
 not-asked-for i typed x {n} asks some =
     let no : eqb (itemAnswer i) 0 ≡ false = rw asks at (ne-eqb n 0 some) in
-    record { answer = rw no asks; len = rw (no, no); bytes = rw (no, no); short = omega arith; typed = typed; read-back = λ e. absurd (some e) }
+    let w = write-answer i (length x) in
+    record { answer = rw (w, no) asks; len = rw (w, no, no); bytes = rw (w, no, no); short = omega arith; typed = typed; read-back = λ e. absurd (some e) }
 
 module _ (i : ItemCodes) (typed : Typed i) (x l : List ℕ) (is : bytesOf l ≡ itemBytes (kept i)) {n : ℕ} (asks : n ≡ itemAnswer i) (accepted : n ≡ 0) (few : length l ≤ 1264) where
   abbrev b : List ℕ
@@ -81,9 +83,9 @@ module _ (i : ItemCodes) (typed : Typed i) (x l : List ℕ) (is : bytesOf l ≡ 
   -- what is promised, by whether there is room
   promised : (t : Bool) → leb (length b) (length x) ≡ t
       → (writeAnswer i (length x) ≡ cond t 0 21) × (writtenLength i (length x) ≡ cond t (length b) 0) × (writtenTo i x ≡ cond t (over x 0 b) x)
-  unfolding writeAnswer writtenLength writtenTo
-  promised true e = (rw (zero-is, e), rw (zero-is, e), rw (zero-is, e))
-  promised false e = (rw (zero-is, e), rw (zero-is, e), rw (zero-is, e))
+  unfolding writtenLength writtenTo
+  promised true e = let w = write-answer i (length x) in (rw (w, zero-is, e), rw (w, zero-is, e), rw (w, zero-is, e))
+  promised false e = let w = write-answer i (length x) in (rw (w, zero-is, e), rw (w, zero-is, e), rw (w, zero-is, e))
 
   -- and what was done
   done : {r : Writing} {y : List ℕ} → WritesAll x 0 l r y → (t : Bool) → leb (length b) (length x) ≡ t

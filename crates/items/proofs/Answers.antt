@@ -2,9 +2,10 @@
 --     whole-handed                  an item handed in
 --     said-written, said-refused    an item written, and a refusal
 use Prim.Native.Nat.{ℕ, _+_, _*_}
-use mathlib.Core.Path.{_≡_, refl}
+use mathlib.Core.Path.{_≡_, refl, _∙_}
 use mathlib.Core.Bool.{Bool, true, false, cond}
 use mathlib.Core.List.{List}
+use native.Mathlib.Omega.{arith}
 use borrow.Author.Tests.{ne-eqb}
 use lib.Dec.{eqb}
 use lib.ListN.{length}
@@ -31,7 +32,14 @@ module _ (s : List ℕ) (i : ItemCodes) (next : Place) where
   whole-handed r e = rw (e, ← r .is) (by-end (eqb (next .fault) 0) (eqb (next .at) (length s)) refl)
 
 pub said-written : {n : ℕ} {i : ItemCodes} {x : List ℕ} {w : Written} {y : List ℕ} {r : ℕ} → n ≡ 0 → Writes i x w y → r ≡ w .answer + 256 * w .len → Says (unless n i) x r y
-said-written none p e = rw none (record { answer = rw (e, p .answer, p .len); bytes = p .bytes })
+said-written {i = i} {x} {w} {y} none p e =
+    rw none
+    (record {
+      answer = rw (e, p .answer, p .len);
+      bytes = p .bytes;
+      read-back = λ j is accepted. let same : i ≡ j = cc is in rw (← same, ← p .len) (p .read-back (p .answer ∙ rw same accepted));
+    })
 
 pub said-refused : (i : ItemCodes) (x : List ℕ) {n r : ℕ} → (n ≡ 0 → ⊥) → r ≡ n → Says (unless n i) x r x
-said-refused i x {n} some e = rw (ne-eqb n 0 some) (record { answer = e; bytes = refl })
+said-refused i x {n} some e =
+    rw (ne-eqb n 0 some) (record { answer = e; bytes = refl; read-back = λ j is accepted. let z : _≡_ {A = ℕ} 0 1 = cc is in absurd (omega arith) })

@@ -2,7 +2,7 @@
 --     gives-the-record     what reading gives of a record is the record
 --     same-item            and the record makes the same item in RUN.md's numbers
 use Prim.Native.Nat.{ℕ, _≤_}
-use mathlib.Core.Path.{_≡_, refl, ap, _∙_}
+use mathlib.Core.Path.{_≡_, _∙_}
 use mathlib.Core.List.{List}
 use native.Mathlib.Omega.{arith}
 use borrow.Author.Tests.{le-leb}
@@ -14,7 +14,7 @@ use Rattle.record.specs.Writing.{itemBytes}
 use Rattle.record.specs.Questions.{itemAnswer}
 use Rattle.record.specs.Records.{ended, wholeRecord, readRecord, writeRecord, writeAnswer, writtenLength, writtenTo}
 use Rattle.record.proofs.RoundTrips.{was-given, was-asked, accepts-written}
-use Rattle.items.specs.Said.{orMalformed, handedIn, Says}
+use Rattle.items.specs.Said.{orMalformed, handedIn}
 use Rattle.items.specs.Promises.{GivesTheRecord, SameItem}
 use Rattle.items.proofs.Within.{within-same, within-then}
 use Rattle.items.proofs.SameFields.{item-within}

@@ -4,10 +4,8 @@ use mathlib.Core.Bool.{Bool}
 use native.Mathlib.Omega.{arith}
 use borrow.Author.Tests.{lt-ltb}
 use lib.Ieee.{Float}
-use Rattle.floatlaws.specs.Numbers.{f32-0}
-use Rattle.fields.specs.Parser.{_that_, when}
-use Rattle.fields.specs.Fields.{number, below, f32}
-use Rattle.record.specs.Items.{blankPoint, blankPathPoint}
+use Rattle.fields.specs.Parser.{when}
+use Rattle.fields.specs.Fields.{number, below}
 use Rattle.record.specs.Reading.{rate, span, smooth, settings, modulation, point, pathPoint, loopback, shape, path, scale, item}
 use Rattle.runs.specs.Records as Run
 use Rattle.runs.specs.Curves as Curves

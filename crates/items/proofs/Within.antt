@@ -1,21 +1,20 @@
 -- Parsers of which one takes all that the other takes, and reads it alike. Assumes nothing.
 --     within-same, within-then     one after the other
---     within-below, within-narrow  numbers of which one field takes fewer
+--     within-number, within-below, within-narrow     numbers of which one field takes fewer
 --     within-that, within-when     a value that is judged, a field of one case
 --     within-row                   points, in a row of their own and in an array
-use Prim.Native.Nat.{ℕ, zero, suc, _+_, _-_, _≤_, _<_}
-use mathlib.Core.Path.{_≡_, refl, sym, ap, _∙_, subst}
+use Prim.Native.Nat.{ℕ, zero, suc, _-_, _≤_, _<_}
+use mathlib.Core.Path.{_≡_, refl, sym, ap, _∙_}
 use mathlib.Core.Bool.{Bool, true, false, cond}
 use mathlib.Core.List.{List, [], _∷_, _++_, append-assoc}
 use native.Mathlib.Omega.{arith}
 use lib.ListN.{length, set, replicate, length-append}
 use Rattle.listlaws.specs.Tables.{padded}
 use Rattle.number.specs.declared.Reading.the-variants.{Number}
-use Rattle.number.specs.Read as Read
 use Rattle.number.specs.Read.{readAt}
 use Rattle.number.proofs.Exact.{below-small, below-keeps}
 use Rattle.fields.specs.Parser.{read, fault, after, Parser, _then_, done, _that_, when, row}
-use Rattle.fields.specs.Fields.{parsed, number, below}
+use Rattle.fields.specs.Fields.{number, below}
 use Rattle.fields.proofs.Chains.{was-read, same-value, same-place, no-fault}
 use Rattle.fields.proofs.Trips.{parsed-read}
 use Rattle.runs.specs.Curves.{kept}

@@ -4,12 +4,13 @@ use mathlib.Core.Path.{_≡_}
 use mathlib.Core.Bool.{cond}
 use mathlib.Core.List.{List}
 use lib.Dec.{eqb}
-use lib.ListN.{length}
+use lib.ListN.{length, take}
 use Rattle.fields.specs.declared.reader.Place.{Place}
-use Rattle.fields.specs.Parser.{Parsed, read, fault, Parser, _then_}
+use Rattle.fields.specs.Parser.{Parsed, read, fault, _then_}
 use Rattle.codes.specs.declared.ItemCodes.{ItemCodes}
 use Rattle.runs.specs.Items.{item}
-use Rattle.record.specs.Records.{Answer, given, refused, ended, writeAnswer, writtenLength, writtenTo}
+use Rattle.record.specs.Kept.{kept}
+use Rattle.record.specs.Records.{Answer, given, refused, ended, readRecord, writeAnswer, writtenLength, writtenTo}
 
 -- ---- an item handed in
 
@@ -44,3 +45,5 @@ left (refused n) x = x
 pub record Says (a : Answer ItemCodes) (x : List ℕ) (r : ℕ) (y : List ℕ) : Type 0 where
   pub answer : r ≡ said a (length x)
   pub bytes : y ≡ left a x
+  -- what is written is a record, and the reader gives the item back from it, points as kept
+  pub read-back : (i : ItemCodes) → a ≡ given i → writeAnswer i (length x) ≡ 0 → readRecord (take (writtenLength i (length x)) y) ≡ given (kept i)
