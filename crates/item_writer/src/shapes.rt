@@ -1,13 +1,10 @@
 // The points of a shape as they are kept, and its loopback.
 use super::numbers::put;
-use super::numbers::put_byte_if;
-use super::numbers::put_count;
 use super::numbers::put_f32;
 use super::numbers::put_f32_if;
 use super::numbers::put_if;
 use codes::LoopbackCodes;
 use codes::ModCodes;
-use codes::PointCodes;
 use codes::ShapeCodes;
 use points::MAX_POINTS;
 use points::PointMod;
@@ -47,43 +44,28 @@ fn yes_no(yes: bool) -> u64
     0
 }
 
-fn point_codes(p: Point) -> PointCodes
-    ensures { λ r. ⌜ r ≡ codesOfPoint p ⌝ }
-{
-    let x_mod = p.x_mod;
-    let y_mod = p.y_mod;
-    let step = yes_no(p.step);
-    let x_codes = mod_codes(x_mod);
-    let y_codes = mod_codes(y_mod);
-    PointCodes {
-        x: p.x,
-        y: p.y,
-        curve: p.curve,
-        step,
-        x_mod: x_codes,
-        y_mod: y_codes,
-    }
-}
-
 pub fn put_mod(out: &mut [u64], at: usize, c: ModCodes) -> usize
     requires { ⌜ at + 3 ≤ length (now out) ⌝ }
     ensures { λ r. ⌜ Adds (now (out .entry)) at (modulationBytes c) 3 r (now (out .exit)) ⌝ }
 {
     let code = put(out, at, c.code);
-    let bus = put_byte_if(out, code, c.code == 1, c.bus);
+    let bus = put_if(out, code, c.code == 1, c.bus as u64);
     put_f32_if(out, bus, c.code == 1, c.depth)
 }
 
-fn put_point(out: &mut [u64], at: usize, c: PointCodes) -> usize
+fn put_point(out: &mut [u64], at: usize, p: Point) -> usize
     requires { ⌜ at + 10 ≤ length (now out) ⌝ }
-    ensures { λ r. ⌜ Adds (now (out .entry)) at (pointBytes c) 10 r (now (out .exit)) ⌝ }
+    ensures { λ r. ⌜ Adds (now (out .entry)) at (pointBytes (codesOfPoint p)) 10 r (now (out .exit)) ⌝ }
 {
-    let x_codes = c.x_mod;
-    let y_codes = c.y_mod;
-    let x = put_f32(out, at, c.x);
-    let y = put_f32(out, x, c.y);
-    let curve = put_f32(out, y, c.curve);
-    let step = put(out, curve, c.step);
+    let x_input = p.x_mod;
+    let y_input = p.y_mod;
+    let stepped = yes_no(p.step);
+    let x_codes = mod_codes(x_input);
+    let y_codes = mod_codes(y_input);
+    let x = put_f32(out, at, p.x);
+    let y = put_f32(out, x, p.y);
+    let curve = put_f32(out, y, p.curve);
+    let step = put(out, curve, stepped);
     let x_mod = put_mod(out, step, x_codes);
     put_mod(out, x_mod, y_codes)
 }
@@ -97,7 +79,7 @@ fn put_points(out: &mut [u64], at: usize, points: [Point; MAX_POINTS], n: usize)
     let mut i = 0;
     while i < n {
         let p = points[i];
-        place = put_point(out, place, point_codes(p));
+        place = put_point(out, place, p);
         i += 1;
     }
     place
@@ -119,7 +101,7 @@ pub fn put_shape(out: &mut [u64], at: usize, c: ShapeCodes) -> usize
     let loopback = c.loopback;
     let shape = curves::shape_of(c);
     let kept = shape.points;
-    let count = put_count(out, at, shape.len);
+    let count = put(out, at, shape.len as u64);
     let points = put_points(out, count, kept, shape.len);
     put_loopback(out, points, loopback)
 }

@@ -11,7 +11,7 @@ returns c =
     let closed = end .before .before .before .before in
     let count = closed .before .before .before .before in
     let path = count .before .before .before in
-    path-put _ (path .path-of .ensures .0) (count .put-count .ensures then closed .put .ensures then end .put-path-points .ensures)
+    path-put _ (path .path-of .ensures .0) (count .put .ensures then closed .put2 .ensures then end .put-path-points .ensures)
 
 pub put-path-spec : {M : Type 1} → statement M
 put-path-spec = tie.close (tie.spec (λ c κs. search needs) (λ c κs. search needs) (λ c κs. search needs) (λ c κs. search needs) (λ c. search needs) returns)

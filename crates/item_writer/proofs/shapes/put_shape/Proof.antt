@@ -11,7 +11,7 @@ returns c =
     let points = end .before .before .before .before in
     let count = points .before .before .before .before in
     let shape = count .before .before .before in
-    shape-put _ (shape .shape-of .ensures .0) (count .put-count .ensures then points .put-points .ensures then end .put-loopback .ensures)
+    shape-put _ (shape .shape-of .ensures .0) (count .put .ensures then points .put-points .ensures then end .put-loopback .ensures)
 
 pub put-shape-spec : {M : Type 1} → statement M
 put-shape-spec = tie.close (tie.spec (λ c κs. search needs) (λ c κs. search needs) (λ c κs. search needs) (λ c κs. search needs) (λ c. search needs) returns)
