@@ -13,6 +13,7 @@ use Rattle.record.specs.Kept.{kept}
 use Rattle.record.specs.Writing.{itemBytes}
 use Rattle.record.specs.Questions.{itemAnswer}
 use Rattle.record.specs.Records.{ended, wholeRecord, readRecord, writeRecord, writeAnswer, writtenLength, writtenTo}
+use Rattle.record.proofs.Answers.{write-answer}
 use Rattle.record.proofs.RoundTrips.{was-given, was-asked, accepts-written}
 use Rattle.items.specs.Said.{orMalformed, handedIn}
 use Rattle.items.specs.Promises.{GivesTheRecord, SameItem}
@@ -28,8 +29,7 @@ same-item s i h =
 -- an item whose record is s, and a buffer with room for it
 module _ (i : ItemCodes) (s : List ℕ) (accepted : itemAnswer i ≡ 0) (is : itemBytes (kept i) ≡ s) where
   answer-none : (room : ℕ) → length s ≤ room → writeAnswer i room ≡ 0
-  unfolding writeAnswer
-  answer-none room h = rw (accepted, is, le-leb (length s) room h)
+  answer-none room h = rw (write-answer i room, accepted, is, le-leb (length s) room h)
 
   length-is : (room : ℕ) → length s ≤ room → writtenLength i room ≡ length s
   unfolding writtenLength

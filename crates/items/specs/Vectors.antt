@@ -26,7 +26,7 @@ use Rattle.record.specs.Writing.{rateBytes, spanBytes, smoothBytes, settingsByt
 use Rattle.record.specs.Kept as Kept
 use Rattle.record.specs.Kept.{keptRate, keptSpan, keptSmooth, keptSettings, keptLoopback, keptShape, keptPath}
 use Rattle.record.specs.Questions.{itemQuestions, itemAnswer}
-use Rattle.record.specs.Records.{ended, writeAnswer, writtenLength, writtenTo}
+use Rattle.record.specs.Records.{ended, writeQuestions, writeAnswer, writtenLength, writtenTo}
 use Rattle.items.specs.Said.{orMalformed, handedIn, said, left}
 
 -- an item of this kind with all its codes 0, no points, buses 0, seed 300, tempo 120, four beats per bar, no swing and 100 percent
@@ -38,7 +38,7 @@ plain kind =
 malformed-first : let l = plain 0 in let m = plain 9 in
     map (λ s. said (handedIn s) 0) ([] ∷ take (length l - 1) l ∷ (l ++ (0 ∷ [])) ∷ l ∷ (m ++ (0 ∷ [])) ∷ m ∷ []) ≡ 255 ∷ 255 ∷ 255 ∷ 21 ∷ 255 ∷ 1 ∷ []
 unfolding plain rowBytes handedIn orMalformed ended item settings shape path rate span smooth kept loopback scale row when after number below Read.below f32 f64 readAt readFrom leading judged shortest numberOf encoded groups ofBits
-    writeAnswer writtenLength itemAnswer itemQuestions firstNo everyKept every settingsKnown transportKnown shapeKnown pathKnown settingsFinite shapeFinite pathFinite transportFinite loopbackIn pathOnPaper shapeOnGrid transportIn lt le neg
+    writeQuestions writeAnswer writtenLength itemAnswer itemQuestions firstNo everyKept every settingsKnown transportKnown shapeKnown pathKnown settingsFinite shapeFinite pathFinite transportFinite loopbackIn pathOnPaper shapeOnGrid transportIn lt le neg
     Kept.kept keptSettings keptRate keptSpan keptSmooth keptShape keptPath keptLoopback givenShape givenPath givenPoints givenPathPoints tabulate shapeOf pathOf sortedArray clampedPath sortedPoints
     itemBytes settingsBytes shapeBytes pathBytes rateBytes spanBytes smoothBytes loopbackBytes scaleBytes toBits
 malformed-first = refl
@@ -46,7 +46,7 @@ malformed-first = refl
 -- what is said of a buffer with one byte more than the record, and that buffer after it: the item's bytes are its record, and the last byte stays
 written : let l = plain 0 in said (handedIn l) (suc (length l)) ∷ left (handedIn l) (replicate (suc (length l)) 7) ≡ 256 * length l ∷ (l ++ (7 ∷ []))
 unfolding plain rowBytes handedIn orMalformed ended item settings shape path rate span smooth kept loopback scale row when after number below Read.below f32 f64 readAt readFrom leading judged shortest numberOf encoded groups ofBits
-    writeAnswer writtenLength writtenTo over itemAnswer itemQuestions firstNo everyKept every settingsKnown transportKnown shapeKnown pathKnown settingsFinite shapeFinite pathFinite transportFinite loopbackIn pathOnPaper shapeOnGrid transportIn lt le neg
+    writeQuestions writeAnswer writtenLength writtenTo over itemAnswer itemQuestions firstNo everyKept every settingsKnown transportKnown shapeKnown pathKnown settingsFinite shapeFinite pathFinite transportFinite loopbackIn pathOnPaper shapeOnGrid transportIn lt le neg
     Kept.kept keptSettings keptRate keptSpan keptSmooth keptShape keptPath keptLoopback givenShape givenPath givenPoints givenPathPoints tabulate shapeOf pathOf sortedArray clampedPath sortedPoints
     itemBytes settingsBytes shapeBytes pathBytes rateBytes spanBytes smoothBytes loopbackBytes scaleBytes toBits
 written = refl
