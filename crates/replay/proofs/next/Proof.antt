@@ -23,6 +23,7 @@ next-spec =
     (λ c κs. search needs)
     (λ c κs. search needs)
     (λ c. search needs)
+    (λ c. search needs)
     slice-aggregate-play-next
     (λ c κs. search needs)
     (λ c. search needs))

@@ -5,8 +5,8 @@ use lib.ListN.{length-take}
 use Rattle.replay.proofs.play_next.Statement.{statement}
 use Rattle.replay.proofs.play_next.Tie as tie
 
-slice-aggregate-play-2 : tie.Need-slice-aggregate-play-2
-slice-aggregate-play-2 c = simp length-take (omega (arith, c .before .before .large-buffer .ensures, c .before .before .before .before .before .before .before .before .pre))
+slice-aggregate-play-kind-2 : tie.Need-slice-aggregate-play-kind-2
+slice-aggregate-play-kind-2 c = simp length-take (omega (arith, c .before .before .large-buffer .ensures, c .before .before .before .before .before .before .before .before .pre))
 
 pub play-next-spec : {M : Type 1} → statement M
 play-next-spec =
@@ -17,7 +17,7 @@ play-next-spec =
     (λ c. search needs)
     (λ c. search needs)
     (λ c. search needs)
-    slice-aggregate-play-2
+    slice-aggregate-play-kind-2
     (λ c κs. search needs)
     (λ c. search needs)
     (λ c. search needs))
