@@ -28,7 +28,6 @@ on_numbers! {
     float_ceil(x: f64) -> f64;
     float_round(x: f64) -> f64;
     float_round_f32(x: f32) -> f32;
-    float_bits_f64(x: f64) -> u64;
     float_f64_to_f32(x: f64) -> f32;
     float_u64_to_f32(n: u64) -> f32;
     float_f64_to_u64(x: f64) -> u64;

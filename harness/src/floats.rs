@@ -1,6 +1,6 @@
 //! The functions on floats against Rust's own: of every limit, of every pair and triple of limits, then of any floats.
 use crate::ffi;
-use crate::tally::{Tally, bits64};
+use crate::tally::Tally;
 use crate::values::{Values, limits_f32, limits_f64};
 
 fn one_f64(t: &mut Tally, x: f64) {
@@ -9,7 +9,6 @@ fn one_f64(t: &mut Tally, x: f64) {
     t.f64(ffi::float_floor(x), x.floor(), input("floor"));
     t.f64(ffi::float_ceil(x), x.ceil(), input("ceil"));
     t.f64(ffi::float_round(x), x.round(), input("round"));
-    t.word(ffi::float_bits_f64(x), bits64(x), input("bits_of_f64"));
     t.f32(ffi::float_f64_to_f32(x), x as f32, input("f64_to_f32"));
     t.word(ffi::float_f64_to_u64(x), x as u64, input("f64_to_u64"));
     t.word(
