@@ -15,7 +15,7 @@ use Rattle.record.specs.Writing.{itemBytes}
 use Rattle.record.specs.Records.{given, refused, writeRecord}
 use Rattle.record.proofs.Answers.{passes, answers, keeps}
 use Rattle.record.proofs.RoundTrips.{gives-back, accepts-written}
-use Rattle.item_calls.specs.Calls.{itemState, entered, Stores, StoresTheRead, PlaysAlike, Exchanged}
+use Rattle.item_calls.specs.Calls.{itemState, entered, StoresPoints, StoresTheRead, PlaysAlike, Exchanged}
 use Rattle.item_calls.proofs.Left.{withCurves, left, stores-the-written}
 use Rattle.item_calls.proofs.Again.{made-again, shape-again, path-again}
 
@@ -43,4 +43,4 @@ exchanged i j t s written read =
 pub stores-the-read : StoresTheRead
 stores-the-read s bytes i h =
     let a = accepts-written s bytes i .0 h in
-    subst (λ (j : ItemCodes). Stores j (itemState i)) (a .is-kept) (stores-the-written i (a .typed .sixteen) (was-accepted i s (a .written)))
+    subst (λ (j : ItemCodes). StoresPoints j (itemState i)) (a .is-kept) (stores-the-written i (a .typed .sixteen) (was-accepted i s (a .written)))

@@ -67,7 +67,7 @@ PlaysTheItem = (i : ItemCodes) → length (i .buses) ≡ 16 → itemAnswer i ≡
 -- ---- it stores the points that the record has
 
 -- the stored points, as codes, are those of the item
-pub record Stores (i : ItemCodes) (p : State) : Type 0 where
+pub record StoresPoints (i : ItemCodes) (p : State) : Type 0 where
   pub count : p .lfo .shape .len ≡ i .shape .count
   pub points : take (p .lfo .shape .len) (map codesOfPoint (p .lfo .shape .points)) ≡ take (i .shape .count) (i .shape .points)
   pub path-count : p .lfo .path .len ≡ i .path .count
@@ -75,11 +75,11 @@ pub record Stores (i : ItemCodes) (p : State) : Type 0 where
 
 -- of a record that is written: "The writer .. writes points as the player keeps them"
 abbrev pub StoresTheWritten : Type 0
-StoresTheWritten = (i : ItemCodes) → length (i .buses) ≡ 16 → itemAnswer i ≡ 0 → Stores (kept i) (itemState i)
+StoresTheWritten = (i : ItemCodes) → length (i .buses) ≡ 16 → itemAnswer i ≡ 0 → StoresPoints (kept i) (itemState i)
 
 -- of a record that is read: the points that were read are the ones stored
 abbrev pub StoresTheRead : Type 0
-StoresTheRead = (s : List ℕ) → Bytes s → (i : ItemCodes) → readRecord s ≡ given i → Stores i (itemState i)
+StoresTheRead = (s : List ℕ) → Bytes s → (i : ItemCodes) → readRecord s ≡ given i → StoresPoints i (itemState i)
 
 -- ---- "Colleges exchange items": who reads an item's record plays from the very player of who wrote it
 

@@ -11,7 +11,7 @@ use Rattle.codes.specs.declared.SettingsCodes.{SettingsCodes}
 use Rattle.codes.specs.declared.ItemCodes.{ItemCodes}
 use Rattle.fields.specs.declared.reader.Place.{Place}
 use Rattle.record.specs.Items.{blankPoint, blankPathPoint}
-use Rattle.record.specs.Records.{Answer, given, refused, unless, readRecord}
+use Rattle.record.specs.Records.{Outcome, given, refused, unless, readRecord}
 use Rattle.item_reader.specs.declared.RecordRead.{RecordRead}
 
 -- ---- an item of zeros, with no points
@@ -56,7 +56,7 @@ abbrev pub refusedRead : ℕ → RecordRead
 refusedRead n = record { answer = n; item = blankItem }
 
 -- the item that comes back with an answer
-abbrev pub itemIn : Answer ItemCodes → ItemCodes
+abbrev pub itemIn : Outcome ItemCodes → ItemCodes
 itemIn (given i) = i
 itemIn (refused n) = blankItem
 

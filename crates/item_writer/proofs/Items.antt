@@ -32,7 +32,7 @@ use Rattle.record.proofs.KeptSettings.{settings-bytes, loopback-bytes}
 use Rattle.record.proofs.Answers.{write-answer}
 use Rattle.record.proofs.RoundTrips.{gives-back}
 use Rattle.item_writer.specs.Numbers.{Adds, frontBytes}
-use Rattle.item_writer.specs.Written.{Writes}
+use Rattle.item_writer.specs.Written.{WritesRecord}
 
 -- the bytes of the first n elements as codes
 row-front : {A B : Type 0} (w : B → List ℕ) (f : A → B) (n : ℕ) (l : List A) → rowBytes (λ a. w (f a)) (take n l) ≡ rowBytes w (take n (map f l))
@@ -61,7 +61,7 @@ unfolding bytesOf itemBytes kept
 item-put i a = (rw (settings-bytes (i .settings)) (a .bytes), omega (arith, a .few))
 
 -- a refusal by the questions
-pub not-asked-for : (i : ItemCodes) → Typed i → (x : List ℕ) {n : ℕ} → n ≡ itemAnswer i → (n ≡ 0 → ⊥) → Writes i x (record { answer = n; len = 0 }) x
+pub not-asked-for : (i : ItemCodes) → Typed i → (x : List ℕ) {n : ℕ} → n ≡ itemAnswer i → (n ≡ 0 → ⊥) → WritesRecord i x (record { answer = n; len = 0 }) x
 unfolding writtenLength writtenTo
 not-asked-for i typed x {n} asks some =
     let no : eqb (itemAnswer i) 0 ≡ false = rw asks at (ne-eqb n 0 some) in
@@ -94,10 +94,10 @@ module _ (i : ItemCodes) (typed : Typed i) (x l : List ℕ) (is : bytesOf l ≡ 
       let plain : 0 + length b ≡ length b = omega arith in
       (rw (is, plain, e) at (g .answer), rw (is, plain, e) at (g .bytes))
 
-  pub is-written : {len : ℕ} {r : Writing} {y : List ℕ} → r ≡ Next len → WritesAll x 0 l r y → Writes i x (record { answer = 0; len = len }) y
+  pub is-written : {len : ℕ} {r : Writing} {y : List ℕ} → r ≡ Next len → WritesAll x 0 l r y → WritesRecord i x (record { answer = 0; len = len }) y
   is-written {len} {r} {y} next g = by-room (leb (length b) (length x)) refl
     where
-      by-room : (t : Bool) → leb (length b) (length x) ≡ t → Writes i x (record { answer = 0; len = len }) y
+      by-room : (t : Bool) → leb (length b) (length x) ≡ t → WritesRecord i x (record { answer = 0; len = len }) y
       by-room true e =
           let (answer, size, bytes) = promised true e in
           let (did, left) = done g true e in
@@ -116,10 +116,10 @@ module _ (i : ItemCodes) (typed : Typed i) (x l : List ℕ) (is : bytesOf l ≡ 
           let z : _≡_ {A = ℕ} 0 1 = cc same in
           absurd (omega arith)
 
-  pub no-room : {r : Writing} {y : List ℕ} → r ≡ NoRoom → WritesAll x 0 l r y → Writes i x (record { answer = 21; len = 0 }) y
+  pub no-room : {r : Writing} {y : List ℕ} → r ≡ NoRoom → WritesAll x 0 l r y → WritesRecord i x (record { answer = 21; len = 0 }) y
   no-room {r} {y} none g = by-room (leb (length b) (length x)) refl
     where
-      by-room : (t : Bool) → leb (length b) (length x) ≡ t → Writes i x (record { answer = 21; len = 0 }) y
+      by-room : (t : Bool) → leb (length b) (length x) ≡ t → WritesRecord i x (record { answer = 21; len = 0 }) y
       by-room true e =
           let same : NoRoom ≡ Next (length b) = sym none ∙ done g true e .0 in
           let z : _≡_ {A = ℕ} 0 1 = cc same in

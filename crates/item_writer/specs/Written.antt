@@ -10,7 +10,7 @@ use Rattle.record.specs.Records.{given, readRecord, writeAnswer, writtenLength,
 use Rattle.item_writer.specs.declared.Written.{Written}
 
 -- writing i into the buffer x says r, and leaves the buffer y
-pub record Writes (i : ItemCodes) (x : List ℕ) (r : Written) (y : List ℕ) : Type 0 where
+pub record WritesRecord (i : ItemCodes) (x : List ℕ) (r : Written) (y : List ℕ) : Type 0 where
   pub answer : r .answer ≡ writeAnswer i (length x)
   pub len : r .len ≡ writtenLength i (length x)
   pub bytes : y ≡ writtenTo i x

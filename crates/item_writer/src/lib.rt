@@ -23,7 +23,7 @@ ghost use Rattle.replies.specs.Replies.{bytesOf};
 ghost use Rattle.record.specs.Kept.{kept};
 ghost use Rattle.record.specs.Writing.{itemBytes};
 ghost use Rattle.item_writer.specs.Numbers.{Adds, frontBytes};
-ghost use Rattle.item_writer.specs.Written.{Writes};
+ghost use Rattle.item_writer.specs.Written.{WritesRecord};
 
 // The most numbers that an item has: 21 of its settings, 10 a point, 9 a path point, 16 buses, and 11 more.
 const MOST: usize = 1264;
@@ -65,7 +65,7 @@ fn put_item(out: &mut [u64], c: ItemCodes) -> usize
 
 // Writes an item's record into the front of `out`: any codes, any buffer.
 pub fn write_record(c: ItemCodes, out: &mut [u8]) -> Written
-    ensures { λ r. ⌜ Writes c (now (out .entry)) r (now (out .exit)) ⌝ }
+    ensures { λ r. ⌜ WritesRecord c (now (out .entry)) r (now (out .exit)) ⌝ }
 {
     let answer = record::item_answer(c);
     if answer != 0 {

@@ -16,8 +16,8 @@ use Rattle.codes.specs.declared.ItemCodes.{ItemCodes}
 use Rattle.runs.specs.Items.{item}
 use Rattle.record.specs.Records.{unless, ended}
 use Rattle.item_writer.specs.declared.Written.{Written}
-use Rattle.item_writer.specs.Written.{Writes}
-use Rattle.items.specs.Said.{orMalformed, handedIn, wholeAnswer, Says}
+use Rattle.item_writer.specs.Written.{WritesRecord}
+use Rattle.items.specs.Said.{orMalformed, handedIn, wholeAnswer, SaysItem}
 
 module _ (s : List ℕ) (i : ItemCodes) (next : Place) where
   by-end : (good here : Bool) → eqb (next .at) (length s) ≡ here
@@ -31,7 +31,7 @@ module _ (s : List ℕ) (i : ItemCodes) (next : Place) where
   unfolding handedIn
   whole-handed r e = rw (e, ← r .is) (by-end (eqb (next .fault) 0) (eqb (next .at) (length s)) refl)
 
-pub said-written : {n : ℕ} {i : ItemCodes} {x : List ℕ} {w : Written} {y : List ℕ} {r : ℕ} → n ≡ 0 → Writes i x w y → r ≡ w .answer + 256 * w .len → Says (unless n i) x r y
+pub said-written : {n : ℕ} {i : ItemCodes} {x : List ℕ} {w : Written} {y : List ℕ} {r : ℕ} → n ≡ 0 → WritesRecord i x w y → r ≡ w .answer + 256 * w .len → SaysItem (unless n i) x r y
 said-written {i = i} {x} {w} {y} none p e =
     rw none
     (record {
@@ -40,6 +40,6 @@ said-written {i = i} {x} {w} {y} none p e =
       read-back = λ j is accepted. let same : i ≡ j = cc is in rw (← same, ← p .len) (p .read-back (p .answer ∙ rw same accepted));
     })
 
-pub said-refused : (i : ItemCodes) (x : List ℕ) {n r : ℕ} → (n ≡ 0 → ⊥) → r ≡ n → Says (unless n i) x r x
+pub said-refused : (i : ItemCodes) (x : List ℕ) {n r : ℕ} → (n ≡ 0 → ⊥) → r ≡ n → SaysItem (unless n i) x r x
 said-refused i x {n} some e =
     rw (ne-eqb n 0 some) (record { answer = e; bytes = refl; read-back = λ j is accepted. let z : _≡_ {A = ℕ} 0 1 = cc is in absurd (omega arith) })

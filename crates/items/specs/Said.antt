@@ -10,7 +10,7 @@ use Rattle.fields.specs.Parser.{Parsed, read, fault, _then_}
 use Rattle.codes.specs.declared.ItemCodes.{ItemCodes}
 use Rattle.runs.specs.Items.{item}
 use Rattle.record.specs.Kept.{kept}
-use Rattle.record.specs.Records.{Answer, given, refused, ended, readRecord, writeAnswer, writtenLength, writtenTo}
+use Rattle.record.specs.Records.{Outcome, given, refused, ended, readRecord, writeAnswer, writtenLength, writtenTo}
 
 -- ---- an item handed in
 
@@ -18,12 +18,12 @@ use Rattle.record.specs.Records.{Answer, given, refused, ended, readRecord, wri
 abbrev pub malformed : ℕ
 malformed = 255
 
-unfoldable pub orMalformed : Parsed ItemCodes → Answer ItemCodes
+unfoldable pub orMalformed : Parsed ItemCodes → Outcome ItemCodes
 orMalformed (read i next) = given i
 orMalformed (fault n) = refused malformed
 
 -- the item that bytes make in RUN.md's numbers, with nothing behind it
-unfoldable pub handedIn : List ℕ → Answer ItemCodes
+unfoldable pub handedIn : List ℕ → Outcome ItemCodes
 handedIn s = orMalformed (_then_ item ended s 0)
 
 -- 0 where `len` bytes were read to their end
@@ -33,16 +33,16 @@ wholeAnswer next len = cond (eqb (next .fault) 0) (cond (eqb (next .at) len) 0 m
 -- ---- an item written into a buffer, or a refusal, which leaves every byte
 
 -- the number, and 256 times the length of what was written into a buffer of `room` bytes
-abbrev pub said : Answer ItemCodes → ℕ → ℕ
+abbrev pub said : Outcome ItemCodes → ℕ → ℕ
 said (given i) room = writeAnswer i room + 256 * writtenLength i room
 said (refused n) room = n
 
-abbrev pub left : Answer ItemCodes → List ℕ → List ℕ
+abbrev pub left : Outcome ItemCodes → List ℕ → List ℕ
 left (given i) x = writtenTo i x
 left (refused n) x = x
 
 -- of what was given or refused: the answer r, and the buffer x, which is then y
-pub record Says (a : Answer ItemCodes) (x : List ℕ) (r : ℕ) (y : List ℕ) : Type 0 where
+pub record SaysItem (a : Outcome ItemCodes) (x : List ℕ) (r : ℕ) (y : List ℕ) : Type 0 where
   pub answer : r ≡ said a (length x)
   pub bytes : y ≡ left a x
   -- what is written is a record, and the reader gives the item back from it, points as kept

@@ -5,7 +5,7 @@ use item_writer::Written;
 ghost use mathlib.Core.Path.{_≡_};
 ghost use Prim.Native.Nat.{_+_, _*_, _≤_};
 ghost use Rattle.record.specs.Records.{unless, readRecord};
-ghost use Rattle.items.specs.Said.{handedIn, wholeAnswer, Says};
+ghost use Rattle.items.specs.Said.{handedIn, wholeAnswer, SaysItem};
 
 // 0 and the item that some bytes make, or 255; the item then says nothing.
 pub struct Handed {
@@ -52,7 +52,7 @@ fn packed(w: Written) -> u64
 
 // Writes an item, or hands its refusal on.
 fn answered(answer: u8, item: ItemCodes, out: &mut [u8]) -> u64
-    ensures { λ r. ⌜ Says (unless answer item) (now (out .entry)) r (now (out .exit)) ⌝ }
+    ensures { λ r. ⌜ SaysItem (unless answer item) (now (out .entry)) r (now (out .exit)) ⌝ }
 {
     if answer != 0 {
         return wide(answer);
@@ -63,7 +63,7 @@ fn answered(answer: u8, item: ItemCodes, out: &mut [u8]) -> u64
 // Reads a record and writes the numbers of its item to `out`.
 #[no_mangle]
 pub extern "C" fn lfo_item_read(bytes: &[u8], out: &mut [u8]) -> u64
-    ensures { λ r. ⌜ Says (readRecord (now (bytes .entry))) (now (out .entry)) r (now (out .exit)) ⌝ }
+    ensures { λ r. ⌜ SaysItem (readRecord (now (bytes .entry))) (now (out .entry)) r (now (out .exit)) ⌝ }
 {
     let r = item_reader::read_record(bytes);
     let item = r.item;
@@ -73,7 +73,7 @@ pub extern "C" fn lfo_item_read(bytes: &[u8], out: &mut [u8]) -> u64
 // Writes the record of an item to `out`.
 #[no_mangle]
 pub extern "C" fn lfo_item_write(bytes: &[u8], out: &mut [u8]) -> u64
-    ensures { λ r. ⌜ Says (handedIn (now (bytes .entry))) (now (out .entry)) r (now (out .exit)) ⌝ }
+    ensures { λ r. ⌜ SaysItem (handedIn (now (bytes .entry))) (now (out .entry)) r (now (out .exit)) ⌝ }
 {
     let r = handed_in(bytes);
     let item = r.item;

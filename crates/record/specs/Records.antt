@@ -14,12 +14,12 @@ use Rattle.record.specs.Kept.{kept}
 use Rattle.record.specs.Questions.{itemQuestions, itemAnswer}
 
 -- what was asked for, or a number
-pub data Answer (A : Type 0) : Type 0 where
-  given : A → Answer A
-  refused : ℕ → Answer A
+pub data Outcome (A : Type 0) : Type 0 where
+  given : A → Outcome A
+  refused : ℕ → Outcome A
 
 -- given where the number is 0
-abbrev pub unless : {A : Type 0} → ℕ → A → Answer A
+abbrev pub unless : {A : Type 0} → ℕ → A → Outcome A
 unless n a = cond (eqb n 0) (given a) (refused n)
 
 -- "bytes left over give 14", for the reader that knows that its bytes end here
@@ -38,15 +38,15 @@ unfoldable pub wholeRecord : Parser ItemCodes
 wholeRecord = item then ended
 
 -- "Reading goes from front to back, before the questions"
-unfoldable pub asked : Parsed ItemCodes → Answer ItemCodes
+unfoldable pub asked : Parsed ItemCodes → Outcome ItemCodes
 asked (read i next) = unless (itemAnswer i) i
 asked (fault n) = refused n
 
-unfoldable pub readRecord : List ℕ → Answer ItemCodes
+unfoldable pub readRecord : List ℕ → Outcome ItemCodes
 readRecord s = asked (wholeRecord s 0)
 
 -- "The writer puts the questions first and writes points as the player keeps them"
-unfoldable pub writeRecord : ItemCodes → Answer (List ℕ)
+unfoldable pub writeRecord : ItemCodes → Outcome (List ℕ)
 writeRecord i = unless (itemAnswer i) (itemBytes (kept i))
 
 -- "A buffer too short for the writer gives 21, after the questions": those of writing into a buffer of `room` bytes

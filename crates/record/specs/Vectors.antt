@@ -32,7 +32,7 @@ use Rattle.record.specs.Questions.{itemQuestions, itemAnswer}
 use Rattle.record.specs.Reading.{rate, span, smooth, settings, modulation, point, pathPoint, loopback, shape, path, scale, item}
 use Rattle.record.specs.Writing.{rateBytes, spanBytes, smoothBytes, settingsBytes, modulationBytes, pointBytes, pathPointBytes, loopbackBytes, shapeBytes, pathBytes, scaleBytes, itemBytes}
 use Rattle.record.specs.Kept.{keptRate, keptSpan, keptSmooth, keptSettings, keptLoopback, keptShape, keptPath, kept}
-use Rattle.record.specs.Records.{Answer, given, refused, ended, wholeRecord, asked, readRecord, writeRecord, writeQuestions, writeAnswer}
+use Rattle.record.specs.Records.{Outcome, given, refused, ended, wholeRecord, asked, readRecord, writeRecord, writeQuestions, writeAnswer}
 
 rate-right : f64-48000 ≡ f64 48000 1
 unfolding ofBits round
@@ -179,7 +179,7 @@ unfolding failing with-curves itemAnswer itemQuestions firstNo everyKept every s
 sequence = refl
 
 -- the number by which something is refused, or 0
-abbrev refusalOf : {A : Type 0} → Answer A → ℕ
+abbrev refusalOf : {A : Type 0} → Outcome A → ℕ
 refusalOf (given a) = 0
 refusalOf (refused n) = n
 
