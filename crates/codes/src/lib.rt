@@ -2,6 +2,9 @@
 // beside it; of a code that is not known, and of fields of a case that was not chosen, nothing is meant. Codes count from 0, in the order of the Rust's cases.
 use points::MAX_POINTS;
 use points::POINT_BUSES;
+ghost use mathlib.Core.Path.{_≡_};
+ghost use lib.ListN.{replicate};
+ghost use Rattle.codes.specs.Blanks.{blankPoint, blankPathPoint};
 
 // ---- settings
 
@@ -107,6 +110,41 @@ pub struct PathCodes {
     pub points: [PathPointCodes; MAX_POINTS],
     pub count: usize,
     pub closed: u64,
+}
+
+// ---- what an array holds after the points: zeros
+
+const BLANK_MOD: ModCodes = ModCodes {
+    code: 0,
+    bus: 0,
+    depth: 0.0,
+};
+
+pub fn blank_points() -> [PointCodes; MAX_POINTS]
+    ensures { λ r. ⌜ r ≡ replicate 64 blankPoint ⌝ }
+{
+    let blank = PointCodes {
+        x: 0.0,
+        y: 0.0,
+        curve: 0.0,
+        step: 0,
+        x_mod: BLANK_MOD,
+        y_mod: BLANK_MOD,
+    };
+    [blank; MAX_POINTS]
+}
+
+pub fn blank_path_points() -> [PathPointCodes; MAX_POINTS]
+    ensures { λ r. ⌜ r ≡ replicate 64 blankPathPoint ⌝ }
+{
+    let blank = PathPointCodes {
+        x: 0.0,
+        y: 0.0,
+        bend: 0.0,
+        x_mod: BLANK_MOD,
+        y_mod: BLANK_MOD,
+    };
+    [blank; MAX_POINTS]
 }
 
 // ---- a restart

@@ -21,7 +21,7 @@ use Rattle.fields.specs.Fields.{upTo, yesNo}
 use Rattle.fields.specs.Places.{Reads}
 use Rattle.fields.proofs.Places.{chain, last}
 use Rattle.fields.proofs.Loops.{row-more}
-use Rattle.record.specs.Items.{blankPoint, blankPathPoint}
+use Rattle.codes.specs.Blanks.{blankPoint, blankPathPoint}
 use Rattle.record.specs.Reading.{lastX, point, pathPoint, loopback, shape, path}
 use Rattle.record.proofs.KeptPoints.{last-x}
 

@@ -10,7 +10,7 @@ use Rattle.codes.specs.declared.SpanCodes.{SpanCodes}
 use Rattle.codes.specs.declared.SettingsCodes.{SettingsCodes}
 use Rattle.codes.specs.declared.ItemCodes.{ItemCodes}
 use Rattle.fields.specs.declared.reader.Place.{Place}
-use Rattle.record.specs.Items.{blankPoint, blankPathPoint}
+use Rattle.codes.specs.Blanks.{blankPoint, blankPathPoint}
 use Rattle.record.specs.Records.{Outcome, given, refused, unless, readRecord}
 use Rattle.item_reader.specs.declared.RecordRead.{RecordRead}
 

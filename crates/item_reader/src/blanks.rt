@@ -1,8 +1,6 @@
 // The item that stands beside the number of a refusal.
 ghost use mathlib.Core.Path.{_≡_};
 ghost use Rattle.item_reader.specs.Refusals.{blankSettings, blankItem};
-use super::paths::blank_path_points;
-use super::shapes::blank_points;
 use codes::ItemCodes;
 use codes::LoopbackCodes;
 use codes::PathCodes;
@@ -12,6 +10,8 @@ use codes::SettingsCodes;
 use codes::ShapeCodes;
 use codes::SmoothCodes;
 use codes::SpanCodes;
+use codes::blank_path_points;
+use codes::blank_points;
 use points::POINT_BUSES;
 
 fn blank_settings() -> SettingsCodes

@@ -1,16 +1,15 @@
 // Reading items from records (document 02, W-203). What is read at a place is `item` of crate record, what a record gives is `readRecord`,
 // and an item with something behind it is `acceptedItem` (crate record, specs/Reading.antt and specs/Records.antt).
 mod blanks;
-mod buses;
 mod paths;
 mod records;
 mod shapes;
 
 use blanks::blank_item;
-use buses::read_buses;
 use codes::ItemCodes;
 use fields::Place;
 use fields::read_f32;
+use fields::read_f32s;
 use fields::read_f64;
 use fields::read_number;
 use paths::read_path;
@@ -42,7 +41,7 @@ pub fn read_item(s: &[u8], from: Place) -> ItemRead
     let settings = read_settings(s, from);
     let shape = read_shape(s, settings.next);
     let path = read_path(s, shape.next);
-    let buses = read_buses(s, path.next);
+    let buses = read_f32s(s, path.next);
     let seed = read_number(s, buses.next);
     let tempo = read_f64(s, seed.next);
     let beats_per_bar = read_f64(s, tempo.next);

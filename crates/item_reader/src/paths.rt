@@ -1,17 +1,17 @@
 // Paths.
 ghost use mathlib.Core.Path.{_≡_};
 ghost use Prim.Native.Nat.{_≤_};
-ghost use lib.ListN.{take, replicate};
+ghost use lib.ListN.{take};
 ghost use Rattle.listlaws.specs.Tables.{padded};
 ghost use Rattle.fields.specs.Parser.{row};
 ghost use Rattle.fields.specs.Places.{Reads};
-ghost use Rattle.record.specs.Items.{blankPathPoint};
+ghost use Rattle.codes.specs.Blanks.{blankPathPoint};
 ghost use Rattle.record.specs.Reading.{pathPoint, path};
 use super::shapes::in_bend;
 use super::shapes::read_modulation;
-use codes::ModCodes;
 use codes::PathCodes;
 use codes::PathPointCodes;
+use codes::blank_path_points;
 use fields::Place;
 use fields::judged;
 use fields::read_below;
@@ -60,24 +60,6 @@ fn read_path_point(s: &[u8], from: Place) -> PathPointRead
         },
         next,
     }
-}
-
-pub fn blank_path_points() -> [PathPointCodes; MAX_POINTS]
-    ensures { λ r. ⌜ r ≡ replicate 64 blankPathPoint ⌝ }
-{
-    let blank_mod = ModCodes {
-        code: 0,
-        bus: 0,
-        depth: 0.0,
-    };
-    let blank_point = PathPointCodes {
-        x: 0.0,
-        y: 0.0,
-        bend: 0.0,
-        x_mod: blank_mod,
-        y_mod: blank_mod,
-    };
-    [blank_point; MAX_POINTS]
 }
 
 // `count` points, in the front of a blank array.

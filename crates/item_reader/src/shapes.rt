@@ -2,18 +2,19 @@
 ghost use mathlib.Core.Path.{_≡_};
 ghost use mathlib.Core.Bool.{cond, true, _&&_};
 ghost use Prim.Native.Nat.{_≤_};
-ghost use lib.ListN.{take, replicate};
+ghost use lib.ListN.{take};
 ghost use lib.Ieee.{le};
 ghost use lib.Ieee.Scale.{finite};
 ghost use Rattle.listlaws.specs.Tables.{padded};
 ghost use Rattle.fields.specs.Parser.{row};
 ghost use Rattle.fields.specs.Places.{Reads};
-ghost use Rattle.record.specs.Items.{blankPoint};
+ghost use Rattle.codes.specs.Blanks.{blankPoint};
 ghost use Rattle.record.specs.Reading.{modulation, inUnit, inBend, lastX, point, loopback, shape};
 use codes::LoopbackCodes;
 use codes::ModCodes;
 use codes::PointCodes;
 use codes::ShapeCodes;
+use codes::blank_points;
 use fields::Place;
 use fields::judged;
 use fields::read_below;
@@ -124,25 +125,6 @@ fn read_point(s: &[u8], from: Place, before: f32) -> PointRead
         },
         next,
     }
-}
-
-pub fn blank_points() -> [PointCodes; MAX_POINTS]
-    ensures { λ r. ⌜ r ≡ replicate 64 blankPoint ⌝ }
-{
-    let blank_mod = ModCodes {
-        code: 0,
-        bus: 0,
-        depth: 0.0,
-    };
-    let blank_point = PointCodes {
-        x: 0.0,
-        y: 0.0,
-        curve: 0.0,
-        step: 0,
-        x_mod: blank_mod,
-        y_mod: blank_mod,
-    };
-    [blank_point; MAX_POINTS]
 }
 
 // `count` points, in the front of a blank array.

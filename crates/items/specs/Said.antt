@@ -24,7 +24,7 @@ orMalformed (fault n) = refused malformed
 
 -- the item that bytes make in RUN.md's numbers, with nothing behind it
 unfoldable pub handedIn : List ℕ → Outcome ItemCodes
-handedIn s = orMalformed (_then_ item ended s 0)
+handedIn s = orMalformed ((item then ended) s 0)
 
 -- 0 where `len` bytes were read to their end
 abbrev pub wholeAnswer : Place → ℕ → ℕ

@@ -35,7 +35,7 @@ use Rattle.fields.specs.RoundTrip.{Gives, Cuts, RoundTrip, WhenOk, RowOk}
 use Rattle.fields.proofs.Chains.{gives-done, cuts-none, same-value, same-place, stands-is}
 use Rattle.fields.proofs.Trips.{Any, NoNan, Fields, number-trip, below-trip, f32-trip, f64-trip, that-trip, when-trip, sure-by, _also_, _with_, last, _&_, _&→_, made}
 use Rattle.fields.proofs.Rows.{row-trip}
-use Rattle.record.specs.Items.{blankPoint, blankPathPoint}
+use Rattle.codes.specs.Blanks.{blankPoint, blankPathPoint}
 use Rattle.record.specs.Reading.{rate, span, smooth, settings, modulation, inUnit, inBend, lastX, point, pathPoint, loopback, shape, path, scale, item}
 use Rattle.record.specs.Writing.{rateBytes, spanBytes, smoothBytes, settingsBytes, modulationBytes, pointBytes, pathPointBytes, loopbackBytes, shapeBytes, pathBytes, scaleBytes, itemBytes}
 use Rattle.record.specs.Promises.{IsF32, IsF64}

@@ -22,7 +22,7 @@ use Rattle.curves.specs.Given.{modOf, noPathPointCodes, pathPointOf, givenPathP
 use Rattle.questions.specs.Tests.{everyKept, modFinite, pathPointKnown, pathPointFinite, pathPointOnPaper}
 use Rattle.questions.proofs.Laws.{and-true, three, five}
 use Rattle.fields.proofs.Trips.{_with_}
-use Rattle.record.specs.Items.{blankPathPoint}
+use Rattle.codes.specs.Blanks.{blankPathPoint}
 use Rattle.record.specs.Reading.{inUnit}
 use Rattle.record.specs.Kept.{codesOfPathPoint, keptPath}
 use Rattle.record.specs.Promises.{PathPointTyped, PathTyped}

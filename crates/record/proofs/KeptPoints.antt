@@ -32,7 +32,7 @@ use Rattle.curves.specs.Given.{isYes, modOf, noPointCodes, pointOf, givenPoints
 use Rattle.questions.specs.Tests.{everyKept, modFinite, pointKnown, pointFinite}
 use Rattle.questions.proofs.Laws.{and-true, five}
 use Rattle.fields.proofs.Trips.{_with_, NoNan}
-use Rattle.record.specs.Items.{blankPoint}
+use Rattle.codes.specs.Blanks.{blankPoint}
 use Rattle.record.specs.Reading.{inUnit, inBend, lastX}
 use Rattle.record.specs.Kept.{codesOfMod, codesOfPoint, keptShape}
 use Rattle.record.specs.Promises.{ModTyped, PointTyped, ShapeTyped}

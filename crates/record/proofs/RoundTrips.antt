@@ -36,7 +36,8 @@ use Rattle.codes.specs.declared.ShapeCodes.{ShapeCodes}
 use Rattle.codes.specs.declared.PathCodes.{PathCodes}
 use Rattle.codes.specs.declared.ItemCodes.{ItemCodes}
 use Rattle.curves.specs.Given.{noPointCodes, noPathPointCodes}
-use Rattle.record.specs.Items.{f64-48000, blankPoint, blankPathPoint}
+use Rattle.record.specs.Items.{f64-48000}
+use Rattle.codes.specs.Blanks.{blankPoint, blankPathPoint}
 use Rattle.record.specs.Reading.{lastX, item}
 use Rattle.record.specs.Writing.{itemBytes}
 use Rattle.record.specs.Kept.{keptShape, kept}

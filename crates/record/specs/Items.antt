@@ -1,10 +1,7 @@
--- An item, in the codes that calls take, is `ItemCodes` of crate codes. Here: the transport that it is played from, and what its arrays hold after the points. Assumes nothing.
+-- An item, in the codes that calls take, is `ItemCodes` of crate codes. Here: the transport that it is played from. Assumes nothing.
 use lib.Ieee.{Float, binary64, ofBits}
-use Rattle.floatlaws.specs.Numbers.{f32-0, f64-0}
+use Rattle.floatlaws.specs.Numbers.{f64-0}
 use Rattle.codes.specs.declared.TransportCodes.{TransportCodes}
-use Rattle.codes.specs.declared.ModCodes.{ModCodes}
-use Rattle.codes.specs.declared.PointCodes.{PointCodes}
-use Rattle.codes.specs.declared.PathPointCodes.{PathPointCodes}
 use Rattle.codes.specs.declared.ItemCodes.{ItemCodes}
 
 abbrev pub f64-48000 : Float
@@ -23,14 +20,3 @@ transportOf i =
       swing = i .swing;
       scale = i .scale;
     }
-
--- what stands under "absent"
-abbrev pub blankMod : ModCodes
-blankMod = record { code = 0; bus = 0; depth = f32-0 }
-
--- what an array has after the points
-abbrev pub blankPoint : PointCodes
-blankPoint = record { x = f32-0; y = f32-0; curve = f32-0; step = 0; «x_mod» = blankMod; «y_mod» = blankMod }
-
-abbrev pub blankPathPoint : PathPointCodes
-blankPathPoint = record { x = f32-0; y = f32-0; bend = f32-0; «x_mod» = blankMod; «y_mod» = blankMod }

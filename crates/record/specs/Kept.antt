@@ -19,7 +19,7 @@ use Rattle.codes.specs.declared.ShapeCodes.{ShapeCodes}
 use Rattle.codes.specs.declared.PathCodes.{PathCodes}
 use Rattle.codes.specs.declared.ItemCodes.{ItemCodes}
 use Rattle.curves.specs.Given.{givenShape, givenPath}
-use Rattle.record.specs.Items.{blankMod}
+use Rattle.codes.specs.Blanks.{blankMod}
 
 -- ---- settings and a loopback: as handed in. A field of a case that was not chosen has no bytes, and is read as 0.
 

@@ -23,7 +23,7 @@ use Rattle.listlaws.specs.Tables.{padded}
 use Rattle.questions.specs.Tests.{between}
 use Rattle.fields.specs.Parser.{Parser, _then_, done, _that_, when, row}
 use Rattle.fields.specs.Fields.{number, below, upTo, yesNo, byte, short, f32, f64}
-use Rattle.record.specs.Items.{blankPoint, blankPathPoint}
+use Rattle.codes.specs.Blanks.{blankPoint, blankPathPoint}
 
 -- ---- "Settings as in lfo/mod.rs without shared, grid_y and smooth, the coefficient in smooth's place"
 

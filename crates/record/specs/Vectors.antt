@@ -27,7 +27,8 @@ use Rattle.fields.specs.Parser.{Parsed, read, fault, after, _that_, when, row}
 use Rattle.fields.specs.Fields.{number, below}
 use Rattle.fields.specs.Fields as Fields
 use Rattle.fields.specs.Bytes.{rowBytes}
-use Rattle.record.specs.Items.{f64-48000, blankMod, blankPoint, blankPathPoint}
+use Rattle.record.specs.Items.{f64-48000}
+use Rattle.codes.specs.Blanks.{blankMod, blankPoint, blankPathPoint}
 use Rattle.record.specs.Questions.{itemQuestions, itemAnswer}
 use Rattle.record.specs.Reading.{rate, span, smooth, settings, modulation, point, pathPoint, loopback, shape, path, scale, item}
 use Rattle.record.specs.Writing.{rateBytes, spanBytes, smoothBytes, settingsBytes, modulationBytes, pointBytes, pathPointBytes, loopbackBytes, shapeBytes, pathBytes, scaleBytes, itemBytes}

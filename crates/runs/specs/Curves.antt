@@ -10,6 +10,7 @@ use Rattle.codes.specs.declared.PathPointCodes.{PathPointCodes}
 use Rattle.codes.specs.declared.LoopbackCodes.{LoopbackCodes}
 use Rattle.codes.specs.declared.ShapeCodes.{ShapeCodes}
 use Rattle.codes.specs.declared.PathCodes.{PathCodes}
+use Rattle.codes.specs.Blanks.{blankPoint, blankPathPoint}
 use Rattle.fields.specs.Parser.{Parser, _then_, done, when}
 use Rattle.fields.specs.Fields.{number, upTo, byte, f32}
 
@@ -30,10 +31,6 @@ modulation =
     when (eqb code 1) f32-0 f32 then λ depth.
     done (record { code = code; bus = bus; depth = depth })
 
--- what the array has past the last point
-abbrev pub blankMod : ModCodes
-blankMod = record { code = 0; bus = 0; depth = f32-0 }
-
 -- ---- shapes
 
 -- point = x y curve step mod mod (x_mod, then y_mod)
@@ -46,9 +43,6 @@ point =
     modulation then λ x-mod.
     modulation then λ y-mod.
     done (record { x = x; y = y; curve = curve; step = step; «x_mod» = x-mod; «y_mod» = y-mod })
-
-abbrev pub blankPoint : PointCodes
-blankPoint = record { x = f32-0; y = f32-0; curve = f32-0; step = 0; «x_mod» = blankMod; «y_mod» = blankMod }
 
 abbrev pub points : ℕ → Parser (List PointCodes)
 points = kept blankPoint point
@@ -76,9 +70,6 @@ pathPoint =
     modulation then λ x-mod.
     modulation then λ y-mod.
     done (record { x = x; y = y; bend = bend; «x_mod» = x-mod; «y_mod» = y-mod })
-
-abbrev pub blankPathPoint : PathPointCodes
-blankPathPoint = record { x = f32-0; y = f32-0; bend = f32-0; «x_mod» = blankMod; «y_mod» = blankMod }
 
 abbrev pub pathPoints : ℕ → Parser (List PathPointCodes)
 pathPoints = kept blankPathPoint pathPoint

@@ -12,7 +12,8 @@ use Rattle.fields.specs.Parser.{read, fault, after, when, row}
 use Rattle.fields.specs.Fields.{number, below, f32, f64}
 use Rattle.runs.specs.Records.{rate, span, smooth, settings, scale}
 use Rattle.runs.specs.Items.{item}
-use Rattle.runs.specs.Curves.{kept, modulation, blankMod, point, blankPoint, loopback, shape, pathPoint, blankPathPoint, path}
+use Rattle.runs.specs.Curves.{kept, modulation, point, loopback, shape, pathPoint, path}
+use Rattle.codes.specs.Blanks.{blankMod, blankPoint, blankPathPoint}
 
 -- numbers as bytes, one after the other
 bytes : List ℕ → List ℕ

@@ -1,6 +1,6 @@
 // Items, as the writer of records takes them: any codes and any points.
 ghost use Rattle.fields.specs.Places.{Reads};
-ghost use Rattle.runs.specs.Items.{buses, item};
+ghost use Rattle.runs.specs.Items.{item};
 use super::paths::read_path;
 use super::records::read_scale;
 use super::records::read_settings;
@@ -8,34 +8,13 @@ use super::shapes::read_shape;
 use codes::ItemCodes;
 use fields::Place;
 use fields::read_f32;
+use fields::read_f32s;
 use fields::read_f64;
 use fields::read_number;
-use points::POINT_BUSES;
-
-pub struct BusesRead {
-    pub value: [f32; POINT_BUSES],
-    pub next: Place,
-}
 
 pub struct ItemRead {
     pub value: ItemCodes,
     pub next: Place,
-}
-
-fn read_buses(run: &[u8], from: Place) -> BusesRead
-    ensures { λ r. ⌜ Reads (buses (now (run .entry))) from (r .value) (r .next) ⌝ }
-{
-    let mut value = [0.0f32; POINT_BUSES];
-    let mut next = from;
-    let mut i = 0;
-    while i < POINT_BUSES {
-        let bus = read_f32(run, next);
-        value[i] = bus.value;
-        let after = bus.next;
-        next = after;
-        i += 1;
-    }
-    BusesRead { value, next }
 }
 
 pub fn read_item(run: &[u8], from: Place) -> ItemRead
@@ -44,7 +23,7 @@ pub fn read_item(run: &[u8], from: Place) -> ItemRead
     let settings = read_settings(run, from);
     let shape = read_shape(run, settings.next);
     let path = read_path(run, shape.next);
-    let buses = read_buses(run, path.next);
+    let buses = read_f32s(run, path.next);
     let seed = read_number(run, buses.next);
     let tempo = read_f64(run, seed.next);
     let beats_per_bar = read_f64(run, tempo.next);

@@ -1,12 +1,10 @@
 // Paths.
-ghost use mathlib.Core.Path.{_≡_};
-ghost use lib.ListN.{replicate};
 ghost use Rattle.fields.specs.Places.{Reads};
-ghost use Rattle.runs.specs.Curves.{pathPoint, pathPoints, blankPathPoint, path};
+ghost use Rattle.runs.specs.Curves.{pathPoint, pathPoints, path};
 use super::shapes::read_mod;
-use codes::ModCodes;
 use codes::PathCodes;
 use codes::PathPointCodes;
+use codes::blank_path_points;
 use fields::Place;
 use fields::read_below;
 use fields::read_f32;
@@ -49,24 +47,6 @@ fn read_path_point(run: &[u8], from: Place) -> PathPointRead
         },
         next,
     }
-}
-
-fn blank_path_points() -> [PathPointCodes; MAX_POINTS]
-    ensures { λ r. ⌜ r ≡ replicate 64 blankPathPoint ⌝ }
-{
-    let blank_mod = ModCodes {
-        code: 0,
-        bus: 0,
-        depth: 0.0,
-    };
-    let blank_point = PathPointCodes {
-        x: 0.0,
-        y: 0.0,
-        bend: 0.0,
-        x_mod: blank_mod,
-        y_mod: blank_mod,
-    };
-    [blank_point; MAX_POINTS]
 }
 
 // Reads `count` points and keeps the first 64.

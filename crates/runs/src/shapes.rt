@@ -1,12 +1,11 @@
 // Shapes.
-ghost use mathlib.Core.Path.{_≡_};
-ghost use lib.ListN.{replicate};
 ghost use Rattle.fields.specs.Places.{Reads};
-ghost use Rattle.runs.specs.Curves.{modulation, point, points, blankPoint, loopback, shape};
+ghost use Rattle.runs.specs.Curves.{modulation, point, points, loopback, shape};
 use codes::LoopbackCodes;
 use codes::ModCodes;
 use codes::PointCodes;
 use codes::ShapeCodes;
+use codes::blank_points;
 use fields::Place;
 use fields::read_below;
 use fields::read_byte_if;
@@ -81,25 +80,6 @@ fn read_point(run: &[u8], from: Place) -> PointRead
         },
         next,
     }
-}
-
-fn blank_points() -> [PointCodes; MAX_POINTS]
-    ensures { λ r. ⌜ r ≡ replicate 64 blankPoint ⌝ }
-{
-    let blank_mod = ModCodes {
-        code: 0,
-        bus: 0,
-        depth: 0.0,
-    };
-    let blank_point = PointCodes {
-        x: 0.0,
-        y: 0.0,
-        curve: 0.0,
-        step: 0,
-        x_mod: blank_mod,
-        y_mod: blank_mod,
-    };
-    [blank_point; MAX_POINTS]
 }
 
 // Reads `count` points and keeps the first 64.

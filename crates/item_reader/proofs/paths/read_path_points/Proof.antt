@@ -9,7 +9,7 @@ use Rattle.listlaws.specs.Tables.{padded}
 use Rattle.fields.specs.Parser.{row}
 use Rattle.fields.specs.Places.{Reads}
 use Rattle.fields.proofs.Loops.{row-none, row-more}
-use Rattle.record.specs.Items.{blankPathPoint}
+use Rattle.codes.specs.Blanks.{blankPathPoint}
 use Rattle.record.specs.Reading.{pathPoint}
 use Rattle.item_reader.proofs.Rows.{filled-more}
 use Rattle.item_reader.proofs.paths.read_path_points.Statement.{statement}

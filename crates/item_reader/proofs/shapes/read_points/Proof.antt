@@ -9,7 +9,7 @@ use Rattle.listlaws.specs.Tables.{padded}
 use Rattle.fields.specs.Parser.{row}
 use Rattle.fields.specs.Places.{Reads}
 use Rattle.fields.proofs.Loops.{row-none}
-use Rattle.record.specs.Items.{blankPoint}
+use Rattle.codes.specs.Blanks.{blankPoint}
 use Rattle.record.specs.Reading.{lastX, point}
 use Rattle.item_reader.proofs.Rows.{filled-more, next-x, points-more}
 use Rattle.item_reader.proofs.shapes.read_points.Statement.{statement}

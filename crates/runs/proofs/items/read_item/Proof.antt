@@ -20,7 +20,7 @@ returns c =
     chain _ (settings .read-settings .ensures)
     (chain _ (shape .read-shape .ensures)
     (chain _ (path .read-path .ensures)
-    (chain _ (buses .read-buses .ensures)
+    (chain _ (buses .read-f32s .ensures)
     (chain _ (seed .read-number .ensures)
     (chain _ (tempo .read-f64 .ensures)
     (chain _ (beats-per-bar .read-f642 .ensures)

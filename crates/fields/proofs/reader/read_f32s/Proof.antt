@@ -1,4 +1,4 @@
--- `read_buses` meets its contract. The loop's invariant: i floats are read. Assumes nothing.
+-- `read_f32s` meets its contract. The loop's invariant: i floats are read. Assumes nothing.
 use Prim.Native.Nat.{_-_, _≤_}
 use mathlib.Core.Path.{_≡_, refl}
 use mathlib.Core.List.{[]}
@@ -6,12 +6,12 @@ use native.Mathlib.Omega.{arith}
 use borrow.Author.Needs.{needs}
 use lib.ListN.{length, take, length-set}
 use lib.Seq.{take-all}
 use Rattle.fields.specs.Parser.{row}
 use Rattle.fields.specs.Fields.{f32}
 use Rattle.fields.specs.Places.{Reads}
 use Rattle.fields.proofs.Loops.{row-none, row-more}
-use Rattle.item_reader.proofs.buses.read_buses.Statement.{statement}
-use Rattle.item_reader.proofs.buses.read_buses.Tie as tie
+use Rattle.fields.proofs.reader.read_f32s.Statement.{statement}
+use Rattle.fields.proofs.reader.read_f32s.Tie as tie
 
 abbrev Inv-loop : tie.InvT-loop
 Inv-loop s values₀ next₀ i₀ values next i = (i ≤ 16) × (length values ≡ 16) × Reads (row (λ l. f32) i s) next₀ (take i values) next
@@ -34,8 +34,8 @@ returns c =
     let e : at .i ≡ 16 = omega arith in
     rw (e, take-all 16 (at .values) (omega (arith, at .inv .1))) at (at .inv .2)
 
-pub read-buses-spec : {M : Type 1} → statement M
-read-buses-spec =
+pub read-f32s-spec : {M : Type 1} → statement M
+read-f32s-spec =
     tie.close
     (tie.spec
     Inv-loop
