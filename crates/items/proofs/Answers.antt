@@ -13,11 +13,10 @@ use Rattle.fields.specs.declared.reader.Place.{Place}
 use Rattle.fields.specs.Parser.{read, fault, after}
 use Rattle.fields.specs.Places.{Reads}
 use Rattle.codes.specs.declared.ItemCodes.{ItemCodes}
-use Rattle.runs.specs.Items.{item}
 use Rattle.record.specs.Records.{unless, ended}
 use Rattle.item_writer.specs.declared.Written.{Written}
 use Rattle.item_writer.specs.Written.{WritesRecord}
-use Rattle.items.specs.Said.{orMalformed, handedIn, wholeAnswer, SaysItem}
+use Rattle.items.specs.Said.{item, orMalformed, handedIn, wholeAnswer, SaysItem}
 
 module _ (s : List ℕ) (i : ItemCodes) (next : Place) where
   by-end : (good here : Bool) → eqb (next .at) (length s) ≡ here

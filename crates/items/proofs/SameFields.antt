@@ -9,7 +9,7 @@ use Rattle.fields.specs.Fields.{number, below}
 use Rattle.record.specs.Reading.{rate, span, smooth, settings, modulation, point, pathPoint, loopback, shape, path, scale, item}
 use Rattle.runs.specs.Records as Run
 use Rattle.runs.specs.Curves as Curves
-use Rattle.runs.specs.Items as Items
+use Rattle.items.specs.Said as Items
 use Rattle.items.proofs.Within.{Within, within-same, within-then, within-below, within-narrow, within-number, within-that, within-when, within-row}
 
 -- a number below a limit, in one case of a choice

@@ -6,13 +6,19 @@ use mathlib.Core.List.{List}
 use lib.Dec.{eqb}
 use lib.ListN.{length, take}
 use Rattle.fields.specs.declared.reader.Place.{Place}
-use Rattle.fields.specs.Parser.{Parsed, read, fault, _then_}
+use Rattle.fields.specs.Parser.{Parsed, Parser, read, fault, _then_}
 use Rattle.codes.specs.declared.ItemCodes.{ItemCodes}
-use Rattle.runs.specs.Items.{item}
+use Rattle.runs.specs.Records.{settings, scale}
+use Rattle.runs.specs.Curves.{shape, path}
+use Rattle.record.specs.Reading.{itemBy}
 use Rattle.record.specs.Kept.{kept}
 use Rattle.record.specs.Records.{Outcome, given, refused, ended, readRecord, writeAnswer, writtenLength, writtenTo}
 
 -- ---- an item handed in
+
+-- in RUN.md's numbers: any codes and any points, so that items which no record holds are among them
+unfoldable pub item : Parser ItemCodes
+item = itemBy settings shape path scale
 
 -- the number of bytes that make no item, and of bytes left over
 abbrev pub malformed : ℕ
@@ -22,7 +28,7 @@ unfoldable pub orMalformed : Parsed ItemCodes → Outcome ItemCodes
 orMalformed (read i next) = given i
 orMalformed (fault n) = refused malformed
 
--- the item that bytes make in RUN.md's numbers, with nothing behind it
+-- the item that bytes make, with nothing behind it
 unfoldable pub handedIn : List ℕ → Outcome ItemCodes
 handedIn s = orMalformed ((item then ended) s 0)
 

@@ -1,4 +1,6 @@
 // Reading and writing items under C names, for harness/ to link (docs/RUN.md, Items).
+mod reading;
+
 use codes::ItemCodes;
 use fields::Place;
 use item_writer::Written;
@@ -30,7 +32,7 @@ fn whole(next: Place, len: usize) -> u8
 fn handed_in(s: &[u8]) -> Handed
     ensures { λ r. ⌜ unless (r .answer) (r .item) ≡ handedIn (now (s .entry)) ⌝ }
 {
-    let r = runs::read_item(s, Place { at: 0, fault: 0 });
+    let r = reading::read_item(s, Place { at: 0, fault: 0 });
     let item = r.value;
     let answer = whole(r.next, s.len());
     Handed { answer, item }

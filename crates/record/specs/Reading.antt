@@ -146,14 +146,15 @@ path =
     row (λ l. pathPoint) count then λ points.
     done (record { points = padded 64 blankPathPoint points; count = count; closed = closed })
 
--- ---- the item, from a place on: Settings, shape, path, "16 buses; seed; tempo, beats per bar, swing, scale"
+-- ---- the item, from a place on
 
 -- 0 percent | 1 percent
 unfoldable pub scale : Parser ScaleCodes
 scale = below 2 then λ code. f32 then λ percent. done (record { code = code; percent = percent })
 
-unfoldable pub item : Parser ItemCodes
-item =
+-- Settings, shape, path, "16 buses; seed; tempo, beats per bar, swing, scale": the order, whichever way the parts are read
+abbrev pub itemBy : Parser SettingsCodes → Parser ShapeCodes → Parser PathCodes → Parser ScaleCodes → Parser ItemCodes
+itemBy settings shape path scale =
     settings then λ settings.
     shape then λ shape.
     path then λ path.
@@ -175,3 +176,6 @@ item =
       swing = swing;
       scale = scale;
     })
+
+unfoldable pub item : Parser ItemCodes
+item = itemBy settings shape path scale

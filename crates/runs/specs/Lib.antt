@@ -1,4 +1,3 @@
 pub mod Records
 pub mod Curves
-pub mod Items
 pub mod Vectors

@@ -4,14 +4,13 @@ use mathlib.Core.Path.{_≡_, refl}
 use mathlib.Core.List.{List, [], _∷_, _++_}
 use lib.ListN.{replicate}
 use lib.Ieee.{nan, ofBits}
-use Rattle.floatlaws.specs.Numbers.{f32-0, f32-1, f64-0, f64-1}
+use Rattle.floatlaws.specs.Numbers.{f32-0, f32-1}
 use Rattle.number.specs.Encoded.{groups, encoded}
 use Rattle.number.specs.Read as Read
 use Rattle.number.specs.Read.{leading, numberOf, shortest, judged, readFrom, readAt}
-use Rattle.fields.specs.Parser.{read, fault, after, when, row}
-use Rattle.fields.specs.Fields.{number, below, f32, f64}
+use Rattle.fields.specs.Parser.{read, fault, after, when}
+use Rattle.fields.specs.Fields.{number, below, f32}
 use Rattle.runs.specs.Records.{rate, span, smooth, settings, scale}
-use Rattle.runs.specs.Items.{item}
 use Rattle.runs.specs.Curves.{kept, modulation, point, loopback, shape, pathPoint, path}
 use Rattle.codes.specs.Blanks.{blankMod, blankPoint, blankPathPoint}
 
@@ -104,40 +103,3 @@ cut-path = refl
 past-the-array : kept 0 number 66 (replicate 64 5 ++ 6 ∷ 7 ∷ 8 ∷ []) 0 ≡ read (replicate 64 5) 66
 unfolding readAt readFrom leading judged shortest numberOf after number kept
 past-the-array = refl
-
--- the bits of 1 as an f64
-one-64 : ℕ
-one-64 = 0x3ff0_0000_0000_0000
-
--- an item that no record holds: kind 9, rate 7, no points, closed 5, scale 3; bus 0 is 1, the seed 6, and the tempo 1; nothing more is read
-item-read :
-    item (bytes (9 ∷ 0 ∷ 0 ∷ 7 ∷ 0 ∷ 0 ∷ 0 ∷ 0 ∷ 0 ∷ one ∷ 0 ∷ 4 ∷ 0 ∷ 0 ∷ 0 ∷ 5 ∷ one ∷ (replicate 15 0 ++ 6 ∷ one-64 ∷ 0 ∷ one ∷ 3 ∷ 8 ∷ []))) 0
-    ≡ read
-    (record {
-      settings =
-          record {
-            kind = 9;
-            mode = 0;
-            direction = 0;
-            rate = record { code = 7; division = 0; feel = 0; hz = f32-0; x10 = 0 };
-            «song_lock» = 0;
-            swing = 0;
-            «fade_in» = record { code = 0; division = 0; seconds = f32-0 };
-            delay = record { code = 0; division = 0; seconds = f32-0 };
-            smooth = record { code = 0; coefficient = f32-0 };
-            phase = f32-1;
-            «phase_snap» = 0;
-            «grid_x» = 4;
-          };
-      shape = record { points = replicate 64 blankPoint; count = 0; loopback = record { code = 0; index = 0 } };
-      path = record { points = replicate 64 blankPathPoint; count = 0; closed = 5 };
-      buses = f32-1 ∷ replicate 15 f32-0;
-      seed = 6;
-      tempo = f64-1;
-      «beats_per_bar» = f64-0;
-      swing = f32-1;
-      scale = record { code = 3; percent = f32-0 };
-    })
-    57
-unfolding bytes one one-64 encoded groups readAt readFrom leading judged shortest numberOf after number below Read.below f32 f64 when row rate span smooth settings kept loopback shape path scale item ofBits
-item-read = refl

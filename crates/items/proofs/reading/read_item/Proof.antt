@@ -1,9 +1,9 @@
 -- `read_item` meets its contract. Assumes nothing.
 use borrow.Author.Needs.{needs}
-use Rattle.runs.specs.Items.{item}
+use Rattle.items.specs.Said.{item}
 use Rattle.fields.proofs.Places.{chain, last}
-use Rattle.runs.proofs.items.read_item.Statement.{statement}
-use Rattle.runs.proofs.items.read_item.Tie as tie
+use Rattle.items.proofs.reading.read_item.Statement.{statement}
+use Rattle.items.proofs.reading.read_item.Tie as tie
 
 returns : tie.Need-returns
 unfolding item

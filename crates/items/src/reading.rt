@@ -1,16 +1,16 @@
-// Items, as the writer of records takes them: any codes and any points.
+// An item in RUN.md's numbers, as the writer of records takes it: any codes and any points.
 ghost use Rattle.fields.specs.Places.{Reads};
-ghost use Rattle.runs.specs.Items.{item};
-use super::paths::read_path;
-use super::records::read_scale;
-use super::records::read_settings;
-use super::shapes::read_shape;
+ghost use Rattle.items.specs.Said.{item};
 use codes::ItemCodes;
 use fields::Place;
 use fields::read_f32;
 use fields::read_f32s;
 use fields::read_f64;
 use fields::read_number;
+use runs::read_path;
+use runs::read_scale;
+use runs::read_settings;
+use runs::read_shape;
 
 pub struct ItemRead {
     pub value: ItemCodes,
