@@ -10,7 +10,7 @@ use Rattle.number.specs.Read as Read
 use Rattle.number.specs.Read.{leading, numberOf, shortest, judged, readFrom, readAt}
 use Rattle.fields.specs.Parser.{read, fault, after, when}
 use Rattle.fields.specs.Fields.{number, below, f32}
-use Rattle.runs.specs.Records.{rate, span, smooth, settings, scale}
+use Rattle.runs.specs.Records.{rate, span, smooth, settings}
 use Rattle.runs.specs.Curves.{kept, modulation, point, loopback, shape, pathPoint, path}
 use Rattle.codes.specs.Blanks.{blankMod, blankPoint, blankPathPoint}
 
