@@ -22,6 +22,74 @@ pub enum Ending {
     Malformed,
 }
 
+const KINDS: [&str; 5] = ["Drawn", "Path", "Lorenz", "Rössler", "Sample-and-Hold"];
+const DIRECTIONS: [&str; 3] = ["Forward", "Reverse", "PingPong"];
+
+/// Blocks of some kind and direction, with a loopback in force or with none.
+#[derive(Clone, Copy, Default)]
+struct End {
+    /// Not finished, and finished.
+    finished: [u64; 2],
+    /// By the last frame's count (`Ends::place`).
+    counts: [u64; 7],
+}
+
+/// Blocks of a One-shot with a frame, by kind and direction, with no loopback in force and with one.
+#[derive(Default)]
+pub struct Ends([[[End; 2]; 3]; 5]);
+
+impl Ends {
+    /// Which of the ranges a count is in: about 1 and 2, on either side of them and between.
+    fn place(count: f64) -> usize {
+        let near = 2f64.powi(-20);
+        match count {
+            c if c < 1.0 - near => 0,
+            c if c < 1.0 => 1,
+            1.0 => 2,
+            c if c < 2.0 - near => 3,
+            c if c < 2.0 => 4,
+            2.0 => 5,
+            _ => 6,
+        }
+    }
+
+    /// A block of a One-shot and the count of its last frame.
+    pub fn block(&mut self, s: &Settings, in_force: bool, count: f64, finished: bool) {
+        let end = &mut self.0[s.kind as usize][s.direction as usize][usize::from(in_force)];
+        end.finished[usize::from(finished)] += 1;
+        end.counts[Self::place(count)] += 1;
+    }
+}
+
+impl fmt::Display for Ends {
+    fn fmt(&self, f: &mut fmt::Formatter) -> fmt::Result {
+        writeln!(
+            f,
+            "  blocks of a One-shot: finished, not, and by the last frame's count (d is 2^−20):"
+        )?;
+        writeln!(
+            f,
+            "    {:<34} {:>8} {:>8} {:>8} {:>8} {:>8} {:>8} {:>8} {:>8} {:>8}",
+            "", "finished", "not", "< 1−d", "[1−d, 1)", "1", "(1, 2−d)", "[2−d, 2)", "2", "> 2"
+        )?;
+        for (kind, by_direction) in KINDS.iter().zip(&self.0) {
+            for (direction, [free, looped]) in DIRECTIONS.iter().zip(by_direction) {
+                for (end, loops) in [(free, ""), (looped, ", loopback in force")] {
+                    let [not, finished] = end.finished;
+                    if not + finished > 0 {
+                        write!(f, "    {:<34}", format!("{kind} {direction}{loops}"))?;
+                        for n in [finished, not].into_iter().chain(end.counts) {
+                            write!(f, " {n:>8}")?;
+                        }
+                        writeln!(f)?;
+                    }
+                }
+            }
+        }
+        Ok(())
+    }
+}
+
 #[derive(Default)]
 pub struct Figures {
     pub runs: u64,
@@ -60,6 +128,8 @@ pub struct Figures {
     /// Blocks of no frame, of one, of less than 64, less than 4,096, of 4,096.
     lengths: [u64; 5],
     finished: u64,
+    /// Shown by the runs about the end of a One-shot.
+    pub ends: Ends,
     nan: u64,
     /// Blocks that `process_scalar` itself played too, and those with other strengths, legs or coefficients than the source's.
     by_bank: u64,
@@ -282,8 +352,7 @@ impl fmt::Display for Figures {
             self.counts.iter().min().unwrap_or(&0)
         )?;
         writeln!(f, "  frames by kind (Free, Restart, One-shot):")?;
-        let kinds = ["Drawn", "Path", "Lorenz", "Rössler", "Sample-and-Hold"];
-        for (name, row) in kinds.iter().zip(self.kinds) {
+        for (name, row) in KINDS.iter().zip(self.kinds) {
             writeln!(
                 f,
                 "    {name:<15} {:>11} {:>11} {:>11}",

@@ -15,6 +15,7 @@ mod adverse;
 mod bend;
 mod choices;
 mod drawn;
+mod ends;
 mod ffi;
 mod figures;
 mod floats;
@@ -64,6 +65,7 @@ const USAGE: &str = "usage: harness/run vectors chaos|curves
        harness/run items show FILE
        harness/run compare SUBJECT|all [COUNT] [SEED]
        harness/run compare runs [COUNT] [SEED] [FRAMES]
+       harness/run compare runs ends [COUNT] [SEED]
        harness/run compare items [COUNT] [SEED]
        harness/run compare bend long
        harness/run compare legs long
@@ -75,6 +77,9 @@ Of runs, COUNT is the least number of runs and FRAMES of frames; run i has the s
 
 /// The runs of a short comparison.
 const RUNS: u64 = 100_000;
+
+/// The runs about the end of a One-shot of a short comparison.
+const ENDS: u64 = 10_000;
 
 /// The records of a short comparison.
 const RECORDS: u64 = 1_000_000;
@@ -116,6 +121,7 @@ fn compare(subject: &str, count: Option<u64>, seed: u64) -> bool {
     if subject == "all" {
         right &= items(&[]);
         right &= runs(&[]);
+        right &= ends(&[]);
     }
     println!(
         "{compared} values compared: {}",
@@ -159,6 +165,15 @@ fn runs(words: &[&str]) -> bool {
     runs::compare(&wanted)
 }
 
+/// Compares runs about the end of a One-shot: COUNT, SEED.
+fn ends(words: &[&str]) -> bool {
+    if words.len() > 2 {
+        usage();
+    }
+    let word = |i: usize, other: u64| words.get(i).map_or(other, |w| number(w));
+    is_release() && runs::compare_ends(word(0, ENDS), word(1, 1))
+}
+
 /// Compares items: COUNT, SEED.
 fn items(words: &[&str]) -> bool {
     if words.len() > 2 {
@@ -197,6 +212,7 @@ fn main() {
         ["compare", "bend", "long"] => every_curve(),
         ["compare", "legs", "long"] => every_coordinate(),
         ["compare", "runs", "long"] => runs::compare_long(),
+        ["compare", "runs", "ends", ref rest @ ..] => ends(rest),
         ["compare", "runs", ref rest @ ..] => runs(rest),
         ["compare", "items", ref rest @ ..] => items(rest),
         ["items", "examples", dir] => item_examples::write(Path::new(dir)),

@@ -110,6 +110,10 @@ impl Lfo {
                 c = swung(c, first);
             }
             heard.last = Some(c);
+            heard.loopback = match s.kind {
+                LfoType::Drawn => self.shape.loopback().map(|i| f64::from(voice.xs[i])),
+                _ => None,
+            };
             heard.zeros |= one_shot && c == 0.0 && c.is_sign_negative();
             if s.kind == LfoType::Path {
                 let p = position(s.mode, s.direction, c, None) as f32;
@@ -144,6 +148,7 @@ impl Lfo {
         block.smooth = supplied.smooth;
         let mut heard = Heard {
             last: None,
+            loopback: None,
             zeros: transport.tempo == 0.0 && transport.tempo.is_sign_negative(),
         };
         let at = restart.map(|at| at.min(frames));

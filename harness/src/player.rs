@@ -24,10 +24,14 @@ pub struct Supplied {
     pub times: Vec<f32>,
 }
 
-/// Of a block: the last frame's count with swing, and whether `max` was put the zeros −0 and 0.
-#[derive(Clone, Copy, Default)]
+/// What was heard of a block.
+#[derive(Clone, Copy)]
 pub struct Heard {
+    /// The last frame's count with swing; nothing where there is no frame.
     pub last: Option<f64>,
+    /// Of a Drawn curve, the x of the loopback point as the last frame has it, moved by the buses.
+    pub loopback: Option<f64>,
+    /// Whether `max` was put the zeros −0 and 0.
     pub zeros: bool,
 }
 

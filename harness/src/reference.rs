@@ -2,8 +2,8 @@
 //! (player.rs).
 use crate::figures::{Ending, Figures, MAKE};
 use crate::legs::{self, legs};
-use crate::lfo::{Lfo, Mode};
-use crate::player::{Player, path_of, path_points, shape_of, transport_of};
+use crate::lfo::{self, Direction, Lfo, LfoType, Mode};
+use crate::player::{Heard, Player, path_of, path_points, shape_of, transport_of};
 use crate::questions;
 use crate::reading::Reader;
 use crate::run::{Block, Call, Path, Settings, Shape, put_number};
@@ -50,6 +50,25 @@ fn path_at(path: &Path, t: u32) -> (f32, f32) {
 /// By whole numbers.
 fn legs_of(path: &Path) -> Vec<f32> {
     legs(&path_points(path), path.closed == 1, legs::exact)
+}
+
+/// Whether a loopback is in force, by the x of the loopback point, which only a Drawn curve has.
+fn in_force(direction: Direction, heard: &Heard) -> bool {
+    heard.loopback.is_some_and(|l| match direction {
+        Direction::Forward | Direction::PingPong => 1.0 - l > 1e-9,
+        Direction::Reverse => l > 1e-9,
+    })
+}
+
+/// Whether a One-shot has finished with the last frame of a block: never with a loopback in force, else at 2 cycles where a curve goes there and back,
+/// and at 1 in every other case.
+fn finished(s: &lfo::Settings, heard: &Heard) -> bool {
+    let there_and_back =
+        s.direction == Direction::PingPong && matches!(s.kind, LfoType::Drawn | LfoType::Path);
+    let end = if there_and_back { 2.0 } else { 1.0 };
+    s.mode == Mode::OneShot
+        && !in_force(s.direction, heard)
+        && heard.last.is_some_and(|count| count >= end)
 }
 
 struct Playing<'a> {
@@ -134,8 +153,12 @@ impl Playing<'_> {
         if answer == 0 {
             let (inc, heard) = self.player.block(b, &mut x, &mut y);
             let s = self.player.lfo.settings;
-            let finished = s.mode == Mode::OneShot && heard.last.is_some_and(|c| c >= 1.0);
+            let finished = finished(&s, &heard);
             self.put(finished.into());
+            if let (Mode::OneShot, Some(count)) = (s.mode, heard.last) {
+                let in_force = in_force(s.direction, &heard);
+                self.figures.ends.block(&s, in_force, count, finished);
+            }
             self.frames += b.frames;
             self.blocks += 1;
             self.played.zeros |= heard.zeros;

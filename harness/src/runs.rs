@@ -1,6 +1,7 @@
 //! Whole runs against the Rust source: the bytes that `lfo_run` of crates/runner gives against those of reference.rs, every byte of `out`.
 //! A run is made from its seed (adverse.rs); run i of a comparison has the seed SEED + i, so that `compare runs 1 S` plays the run of seed S alone.
 use crate::adverse::{Made, made};
+use crate::ends;
 use crate::ffi::lfo_run;
 use crate::figures::{CALLS, Figures};
 use crate::progress::Progress;
@@ -19,6 +20,8 @@ pub struct Wanted {
 }
 
 struct Comparison {
+    /// What is compared, as the command names it.
+    name: &'static str,
     progress: Progress,
     figures: Figures,
     differed: u64,
@@ -112,8 +115,9 @@ fn differs(run: &Run) -> bool {
 }
 
 impl Comparison {
-    fn new() -> Self {
+    fn new(name: &'static str) -> Self {
         Self {
+            name,
             progress: Progress::new(),
             figures: Figures::default(),
             differed: 0,
@@ -125,8 +129,8 @@ impl Comparison {
     fn right(&self) -> bool {
         let seconds = self.progress.seconds();
         println!(
-            "runs       {:>11} compared, {} frames, {} differed ({} by {ZERO_OF_MAX}), {seconds:.1} s",
-            self.figures.runs, self.figures.frames, self.differed, self.known
+            "{:<10} {:>11} compared, {} frames, {} differed ({} by {ZERO_OF_MAX}), {seconds:.1} s",
+            self.name, self.figures.runs, self.figures.frames, self.differed, self.known
         );
         self.differed == self.known && self.figures.bank_differed == 0
     }
@@ -158,7 +162,8 @@ impl Comparison {
             return;
         }
         println!(
-            "runs differ, seed {seed}: {}",
+            "{} differ, seed {seed}: {}",
+            self.name,
             first_difference(played, &ours)
         );
         if made.spoiled {
@@ -189,8 +194,8 @@ impl Comparison {
         };
         self.progress.show(|| {
             format!(
-                "runs       {:>11} of {runs}, {}{wanted} frames",
-                f.runs, f.frames
+                "{:<10} {:>11} of {runs}, {}{wanted} frames",
+                self.name, f.runs, f.frames
             )
         });
     }
@@ -214,7 +219,8 @@ impl Comparison {
                 self.show_difference(seed, made, &played);
             } else if self.differed - self.known <= 10 {
                 println!(
-                    "runs differ, seed {seed}: `out` of {out_len} bytes, wrote {n}, by RUN.md {written}; bytes {}",
+                    "{} differ, seed {seed}: `out` of {out_len} bytes, wrote {n}, by RUN.md {written}; bytes {}",
+                    self.name,
                     hex(&made.bytes)
                 );
             }
@@ -224,7 +230,7 @@ impl Comparison {
 
 /// Compares runs and answers whether every difference is a known one.
 pub fn compare(wanted: &Wanted) -> bool {
-    let mut c = Comparison::new();
+    let mut c = Comparison::new("runs");
     let mut i = 0;
     while i < wanted.runs || c.figures.frames < wanted.frames {
         let seed = wanted.seed.wrapping_add(i);
@@ -236,20 +242,36 @@ pub fn compare(wanted: &Wanted) -> bool {
     c.right()
 }
 
+// A run as it is, with no setting that gave a coefficient.
+fn plain(run: Run) -> Made {
+    Made {
+        bytes: run.bytes(),
+        run,
+        smooths: vec![],
+        spoiled: false,
+    }
+}
+
 /// Compares the long runs (written.rs).
 pub fn compare_long() -> bool {
-    let mut c = Comparison::new();
+    let mut c = Comparison::new("runs long");
     let runs = long_runs();
     let count = runs.len() as u64;
     for (i, run) in runs.into_iter().enumerate() {
-        let made = Made {
-            bytes: run.bytes(),
-            run,
-            smooths: vec![],
-            spoiled: false,
-        };
         c.show_progress(count, 0);
-        c.run(i as u64, &made);
+        c.run(i as u64, &plain(run));
     }
+    c.right()
+}
+
+/// Compares runs about the end of a One-shot (ends.rs).
+pub fn compare_ends(count: u64, seed: u64) -> bool {
+    let mut c = Comparison::new("runs ends");
+    for i in 0..count {
+        let seed = seed.wrapping_add(i);
+        c.show_progress(count, 0);
+        c.run(seed, &plain(ends::made(seed)));
+    }
+    print!("{}{}", c.figures, c.figures.ends);
     c.right()
 }

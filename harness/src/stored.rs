@@ -220,11 +220,47 @@ fn starts(list: &mut List) {
         let w = w.block(3, NONE).block(frames, Present::Yes(at));
         add(list, w.block(2, NONE));
     }
-    // One-shot: finished with the frame that reaches one cycle, not before
-    for frames in [8, 9] {
-        let w = Written::new(&eighth(LfoType::Rossler, Mode::OneShot));
-        let w = w.block(0, Present::Yes(0)).block(frames, NONE);
-        add(list, w.block(0, NONE));
+}
+
+// Blocks of a One-shot whose last frames are at 7/8, 1, 15/8, 2 and 17/8 cycles.
+fn to_the_end(w: Written) -> Written {
+    let w = w.block(0, Present::Yes(0));
+    let frames = [8, 1, 7, 1, 1];
+    frames.into_iter().fold(w, |w, n| w.block(n, NONE))
+}
+
+fn ends(list: &mut List) {
+    for kind in KINDS {
+        for direction in DIRECTIONS {
+            let s = Settings {
+                direction,
+                ..eighth(kind, Mode::OneShot)
+            };
+            let mut w = Written::new(&s);
+            if kind != LfoType::Drawn {
+                // a loopback that this kind does not read
+                w = w.with(Call::Shape(bent()));
+            }
+            add(list, to_the_end(w).block(0, NONE));
+        }
+    }
+    // a loopback that bus 0 moves from 0: about 10^−9, and about 1
+    let mut loopback = point(0.0, 1.0, 0.0);
+    loopback.mods[0] = moved(0, 1.0);
+    let shape = Shape {
+        points: vec![loopback, point(1.0, 0.25, 0.0)],
+        loopback: Present::Yes(0),
+    };
+    for direction in DIRECTIONS {
+        let s = Settings {
+            direction,
+            ..eighth(LfoType::Drawn, Mode::OneShot)
+        };
+        for to in [0, 0x3089_705f, 0x3089_7060, 0x3f7f_ffff, 0x3f80_0000] {
+            let w = Written::new(&s).with(Call::Shape(shape.clone()));
+            let w = to_the_end(w.bus(0, f32::from_bits(to)));
+            add(list, w.bus(0, 0.0).block(1, NONE));
+        }
     }
 }
 
@@ -723,6 +759,7 @@ pub fn runs(dir: &Path) {
     locked(&mut list);
     smoothing(&mut list);
     starts(&mut list);
+    ends(&mut list);
     curves(&mut list);
     changes(&mut list);
     evaluations(&mut list);

@@ -2,14 +2,11 @@
 -- Assumes nothing.
 use Prim.Native.Nat.{ℕ, _-_, min}
 use mathlib.Core.Path.{_≡_}
-use mathlib.Core.Bool.{Bool, false}
 use mathlib.Core.List.{List, _++_}
 use lib.ListN.{drop}
-use lib.Ieee.{Float, le}
-use Rattle.floatlaws.specs.Numbers.{f64-0, f64-1}
+use lib.Ieee.{Float}
+use Rattle.floatlaws.specs.Numbers.{f64-0}
 use Rattle.clock.specs.declared.block.Block.{Block}
-use Rattle.settings.specs.declared.choices.Mode.{Mode}
-use Rattle.settings.specs.declared.choices.Mode.the-variants.{Free, Restart, OneShot}
 use Rattle.settings.specs.declared.record.Settings.{Settings}
 use Rattle.voice.specs.declared.Voice.{Voice}
 use Rattle.voice.specs.Curve.{Curve, KeptFor}
@@ -54,16 +51,10 @@ module _ (s : Settings) (q : Curve) (b : Block) (frames : ℕ) (v : Voice) where
   partsOuts None f = values 0 f frames begun
   partsOuts (At at) f = let k = min at frames in values 0 f k begun ++ values k f (frames - k) (restarted k)
 
-  -- the cycle count of the last frame, 0 where there is none
+  -- the swung cycle count of the last frame, 0 where there is none
   unfoldable pub partsCount : Pending → Float
   partsCount None = last 0 frames begun f64-0
   partsCount (At at) = let k = min at frames in last k (frames - k) (restarted k) (last 0 k begun f64-0)
-
--- finished: a One-shot whose last frame's swung cycle count is 1 or more; a block of no frames is not
-unfoldable pub finishedOf : Mode → Float → Bool
-finishedOf Free c = false
-finishedOf Restart c = false
-finishedOf OneShot c = le f64-1 c
 
 -- ---- the code's promises
 

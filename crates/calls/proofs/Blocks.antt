@@ -1,4 +1,4 @@
--- What a block leaves in a buffer, and how the free clock counts. Assumes nothing.
+-- What a block leaves in a buffer, how the free clock counts, and the loopback that finished goes by. Assumes nothing.
 use Prim.Native.Nat.{ℕ, _+_, _-_, _≤_, min}
 use mathlib.Core.Path.{_≡_, refl, ap, _∙_}
 use mathlib.Core.Bool.{Bool, true, cond}
@@ -6,9 +6,13 @@ use mathlib.Core.List.{List, _++_}
 use native.Mathlib.Nat.{min-le-right}
 use native.Mathlib.Omega.{arith}
 use borrow.Author.Tests.{eqb-true}
-use lib.ListN.{length, drop, length-append, length-drop}
+use lib.ListN.{length, getD, drop, length-append, length-drop}
 use lib.Seq.{take-at, drop-at}
-use lib.Ieee.{Float}
+use lib.Ieee.{Float, nan}
+use Rattle.shape.specs.declared.Loopback.the-variants as Loopback
+use Rattle.shape.specs.Shapes.{modulatedOf}
+use Rattle.settings.specs.declared.choices.LfoType.{LfoType}
+use Rattle.settings.specs.declared.choices.LfoType.the-variants.{Drawn}
 use Rattle.settings.specs.declared.record.Settings.{Settings}
 use Rattle.settings.specs.declared.record.Transport.{Transport}
 use Rattle.codes.specs.declared.TransportCodes.{TransportCodes}
@@ -17,6 +21,9 @@ use Rattle.settings.specs.declared.record.TransportCode.the-variants as Transpo
 use Rattle.settings.specs.Codes.{transportAt}
 use Rattle.floatlaws.proofs.Tests.{yes-so}
 use Rattle.settings.proofs.Read.{transport-of}
+use Rattle.position.specs.declared.place.LoopPoint.{LoopPoint}
+use Rattle.position.specs.declared.place.LoopPoint.the-variants as LoopPoint
+use Rattle.position.specs.Rest.{finishedOf}
 use Rattle.clock.specs.declared.block.Block.{Block}
 use Rattle.clock.specs.declared.block.SongLock.{SongLock}
 use Rattle.clock.specs.declared.block.SongLock.the-variants as SongLock
@@ -32,13 +39,15 @@ use Rattle.bank.specs.declared.parts.Pending.{Pending}
 use Rattle.bank.specs.declared.parts.Pending.the-variants.{None, At}
 use Rattle.bank.specs.Parts.{begun, restarted, partsOuts}
 use Rattle.bank.proofs.Frames.{length-outs}
+use Rattle.slot.specs.declared.Lfo.{Lfo}
+use Rattle.slot.specs.Moved.{shapeLists, listsOf, loopOf, movedCurve}
 use Rattle.slot.specs.Slot.{slotCurve}
 use Rattle.codes.specs.declared.RestartCodes.{RestartCodes}
 use Rattle.questions.proofs.Facts.{BlockAccepted, block-accepted}
 use Rattle.calls.specs.State.{State}
-use Rattle.calls.specs.Blocks.{pendingOf, playedState, values}
+use Rattle.calls.specs.Blocks.{pendingOf, playedState, values, endCount, finished}
 use Rattle.calls.specs.Calls.{block, questions, answer, accepts, accepted, step, played, buffer}
-use Rattle.calls.specs.Laws.{RefusedBuffer, Writes, BlockWrites, ClockCounts}
+use Rattle.calls.specs.Laws.{RefusedBuffer, Writes, BlockWrites, ClockCounts, modulatedX, FinishedByLoopback}
 
 pub refused-buffer : RefusedBuffer
 unfolding buffer
@@ -108,3 +117,17 @@ clock-counts p c frames restart x y t e known lock =
     let s = p .lfo .settings in
     ap (λ (k : Clock). k .n) (clock-is p c frames restart x y t e known)
     ∙ counted (p .lfo .clock) (lockAt s t) (paceAt s t .inc) (tempoOf t) (t .beats) (t .seconds) frames lock
+
+-- ---- finished
+
+drawn-from : (lfo : Lfo) (kind : LfoType) (i : ℕ) → kind ≡ Drawn → lfo .shape .loopback ≡ Loopback.At i
+    → slotCurve kind lfo .from ≡ LoopPoint.At (getD (modulatedOf (lfo .shape .points) (lfo .shape .len) (lfo .buses) .xs) i nan)
+unfolding movedCurve loopOf listsOf shapeLists
+drawn-from lfo kind i e l = rw (e, l)
+
+pub finished-by-loopback : FinishedByLoopback
+unfolding finished
+finished-by-loopback p t frames at i e l =
+    let s = p .lfo .settings in
+    ap (λ (from : LoopPoint). finishedOf (s .kind) (s .mode) (s .direction) from (endCount p t frames at)) (drawn-from (p .lfo) (s .kind) i e l)
+    ∙ ap (λ (kind : LfoType). finishedOf kind (s .mode) (s .direction) (LoopPoint.At (modulatedX p i)) (endCount p t frames at)) e

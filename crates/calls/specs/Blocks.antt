@@ -4,13 +4,14 @@ use mathlib.Core.Bool.{Bool, cond}
 use mathlib.Core.List.{List}
 use lib.Ieee.{Float}
 use Rattle.settings.specs.declared.record.Transport.{Transport}
+use Rattle.position.specs.Rest.{finishedOf}
 use Rattle.clock.specs.declared.ready.Prepared.{Prepared}
 use Rattle.clock.specs.Ready.{preparedOf, phaseRead}
 use Rattle.voice.specs.Curve.{Curve}
 use Rattle.voice.specs.Frame.{Frame}
 use Rattle.bank.specs.declared.parts.Pending.{Pending}
 use Rattle.bank.specs.declared.parts.Pending.the-variants as Pending
-use Rattle.bank.specs.Parts.{partsVoice, partsOuts, partsCount, finishedOf}
+use Rattle.bank.specs.Parts.{partsVoice, partsOuts, partsCount}
 use Rattle.slot.specs.Slot.{slotCurve, clockedLfo}
 use Rattle.curves.specs.Given.{isYes}
 use Rattle.codes.specs.declared.RestartCodes.{RestartCodes}
@@ -42,8 +43,13 @@ module _ (p : State) (t : Transport) (frames : ℕ) (at : Pending) where
   unfoldable pub values : (Frame → Float) → List Float
   values = partsOuts (p .lfo .settings) curve (prepared .block) frames (p .voice) at
 
+  -- the swung cycle count of its last frame, 0 where there is none
+  abbrev pub endCount : Float
+  endCount = partsCount (p .lfo .settings) curve (prepared .block) frames (p .voice) at
+
+  -- by that count, and by the loopback as its frames read it
   unfoldable pub finished : Bool
-  finished = finishedOf (p .lfo .settings .mode) (partsCount (p .lfo .settings) curve (prepared .block) frames (p .voice) at)
+  finished = finishedOf (p .lfo .settings .kind) (p .lfo .settings .mode) (p .lfo .settings .direction) (curve .from) endCount
 
 -- the phase, 0 to 1, at the transport t
 unfoldable pub phaseAt : State → Transport → Float

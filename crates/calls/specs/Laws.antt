@@ -6,18 +6,24 @@ use mathlib.Core.List.{List, [], _∷_, _++_}
 use lib.ListN.{length, getD, take, drop}
 use lib.Ieee.{Float, nan, eq}
 use Rattle.codes.specs.declared.SettingsCodes.{SettingsCodes}
+use Rattle.settings.specs.declared.choices.LfoType.the-variants.{Drawn}
 use Rattle.settings.specs.declared.record.Transport.{Transport}
 use Rattle.codes.specs.declared.TransportCodes.{TransportCodes}
 use Rattle.settings.specs.declared.record.TransportCode.the-variants as TransportCode
 use Rattle.settings.specs.Codes.{transportAt}
+use Rattle.shape.specs.declared.Loopback.the-variants as Loopback
+use Rattle.shape.specs.Shapes.{modulatedOf}
+use Rattle.position.specs.declared.place.LoopPoint.the-variants as LoopPoint
+use Rattle.position.specs.Rest.{finishedOf}
 use Rattle.clock.specs.declared.block.SongLock.the-variants as SongLock
 use Rattle.clock.specs.Free.{anchoredClock}
 use Rattle.clock.specs.Ready.{paceAt, lockAt}
 use Rattle.voice.specs.Frame.{Frame}
+use Rattle.bank.specs.declared.parts.Pending.{Pending}
 use Rattle.codes.specs.declared.RestartCodes.{RestartCodes}
 use Rattle.questions.specs.Questions.{Question, firstNo, blockQuestions}
 use Rattle.calls.specs.State.{State}
-use Rattle.calls.specs.Blocks.{pendingOf, values}
+use Rattle.calls.specs.Blocks.{pendingOf, values, endCount, finished}
 use Rattle.calls.specs.Calls.{Call, bus, phase, block, byBlock, questions, answer, accepts, made, step, after, buffer}
 
 -- ---- the answer: "the first "no" gives the number .. Success is 0"
@@ -84,6 +90,15 @@ ClockCounts =
     (p : State) (c : TransportCodes) (frames : ℕ) (restart : RestartCodes) (x y : List Float) (t : Transport)
     → accepts p (block c frames restart x y) ≡ true → transportAt c ≡ TransportCode.Known t → lockAt (p .lfo .settings) t ≡ SongLock.None
     → step p (block c frames restart x y) .lfo .clock .n ≡ anchoredClock (p .lfo .clock) (paceAt (p .lfo .settings) t .inc) .n + frames
+
+-- finished goes by "the modulated x of the loopback point of a Drawn curve": of its point i, moved by the buses
+abbrev pub modulatedX : State → ℕ → Float
+modulatedX p i = getD (modulatedOf (p .lfo .shape .points) (p .lfo .shape .len) (p .lfo .buses) .xs) i nan
+
+abbrev pub FinishedByLoopback : Type 0
+FinishedByLoopback =
+    (p : State) (t : Transport) (frames : ℕ) (at : Pending) (i : ℕ) → p .lfo .settings .kind ≡ Drawn → p .lfo .shape .loopback ≡ Loopback.At i
+    → finished p t frames at ≡ finishedOf Drawn (p .lfo .settings .mode) (p .lfo .settings .direction) (LoopPoint.At (modulatedX p i)) (endCount p t frames at)
 
 -- ---- "the frames played since the player was made"
 

@@ -11,6 +11,7 @@ use Rattle.settings.specs.declared.record.Settings.{Settings}
 use Rattle.settings.specs.declared.record.Transport.{Transport}
 use Rattle.reach.specs.Bounds.{AnchorIn}
 use Rattle.position.specs.declared.place.LoopPoint.{LoopPoint}
+use Rattle.position.specs.Rest.{finishedOf}
 use Rattle.voice.specs.declared.Voice.{Voice}
 use Rattle.voice.specs.declared.begun.MadeFor.the-variants as MadeFor
 use Rattle.voice.specs.declared.generator.Kept.{Kept}
@@ -62,7 +63,8 @@ module _ (p : Player) (played : ℕ) (t : Transport) (frames : ℕ) (x y : List 
 
   -- what they give together, with any cache that belongs to page and voice
   module _ (at : Pending) (k : Prepared) (r : Rendered) (done : Bool) (x′ y′ : List Float)
-      (e : k ≡ ready) (plays : bank.PlaysParts s q (ready .block) (p .slot .voice) at frames x y r x′ y′) (ends : done ≡ bank.finishedOf (s .mode) (r .count)) where
+      (e : k ≡ ready) (plays : bank.PlaysParts s q (ready .block) (p .slot .voice) at frames x y r x′ y′)
+      (ends : done ≡ finishedOf (s .kind) (s .mode) (s .direction) (q .from) (r .count)) where
     abbrev pub next : Cache → Slot
     next cache = record { lfo = clockedLfo lfo (k .clock); voice = r .voice; cache = cache }
 
@@ -80,7 +82,7 @@ module _ (p : Player) (played : ℕ) (t : Transport) (frames : ℕ) (x y : List 
         record {
           answer-is = refl;
           state-is = unfold playedState in rw (e, plays .voice-is, h .played-is);
-          finished-is = unfold finished in ends ∙ ap (λ (c : Float). bank.finishedOf (s .mode) c) (plays .count-is);
+          finished-is = unfold finished in ends ∙ rw (plays .count-is);
           x-is = unfold values in plays .x-is;
           y-is = unfold values in plays .y-is;
           valid = record { within = h .within; lfo-in = lfo-after; anchor-in = anchor-after; cache-in = j };
@@ -117,9 +119,12 @@ module _ (p : Player) (played : ℕ) (t : Transport) (frames : ℕ) (x y : List 
   -- what the calls give together
   module _ (at : Pending) (k : Prepared) (z : Slot) (n : ℕ) (from : LoopPoint) (r : Rendered) (done : Bool) (x′ y′ : List Float)
       (e : k ≡ ready) (f : Found z n from) (plays : bank.PlaysParts s (lent z n from) (k .block) (p .slot .voice) at frames x y r x′ y′)
-      (ends : done ≡ bank.finishedOf (s .mode) (r .count)) where
+      (ends : done ≡ finishedOf (s .kind) (s .mode) (s .direction) from (r .count)) where
     played-by : bank.PlaysParts s q (ready .block) (p .slot .voice) at frames x y r x′ y′
     played-by = rw (lent-is z n from f, e) at plays
+
+    from-is : from ≡ q .from
+    from-is = ap (λ (c : Curve). c .from) (lent-is z n from f)
 
     -- the cache after it, of the slot as it began
     abbrev cached : Slot → Cache
@@ -140,4 +145,4 @@ module _ (p : Player) (played : ℕ) (t : Transport) (frames : ℕ) (x y : List 
     pub block-gives : PlaysBlock p t at frames x y (record { answer = 0; finished = done; player = ended z }) x′ y′
     block-gives =
         subst (λ (w : Slot). PlaysBlock p t at frames x y (record { answer = 0; finished = done; player = ended w }) x′ y′) (sym (f .slot-is))
-        (gives-with at k r done x′ y′ e played-by ends (cached (readied (p .slot))) cache-after)
+        (gives-with at k r done x′ y′ e played-by (ends ∙ ap (λ (l : LoopPoint). finishedOf (s .kind) (s .mode) (s .direction) l (r .count)) from-is) (cached (readied (p .slot))) cache-after)

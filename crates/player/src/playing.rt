@@ -43,6 +43,7 @@ fn render(
     let made_for = v.made_for;
     let kind = settings.kind;
     let mode = settings.mode;
+    let direction = settings.direction;
     let prepared = clock::prepare(settings, clock, transport, frames as u64);
     let block = prepared.block;
     if !slot::is_current(slot.cache.fresh, made_for, kind) {
@@ -87,7 +88,7 @@ fn render(
         kept: found,
         fresh: true,
     };
-    let finished = slot::finished(mode, r.count);
+    let finished = position::finished(kind, mode, direction, from, r.count);
     Played {
         answer: 0,
         finished,

@@ -58,12 +58,34 @@ cyclicOf Forward c = intoCycle c
 cyclicOf Reverse c = f64-1 -₆₄ intoCycle c
 cyclicOf PingPong c = cond (oddCycle (floorOf c)) (f64-1 -₆₄ intoCycle c) (intoCycle c)
 
+-- ---- a One-shot's loop, from a loopback point at l
+
+-- how long it is: to the end, in reverse to the start
+abbrev pub loopLength : Direction → Float → Float
+loopLength Forward l = f64-1 -₆₄ l
+loopLength Reverse l = l
+loopLength PingPong l = f64-1 -₆₄ l
+
+-- it is longer than 10^−9: only then position loops
+abbrev pub loops : Direction → Float → Bool
+loops d l = lt f64-eps (loopLength d l)
+
+-- from the end to the loopback point and back: d into a bounce, each way w long
+unfoldable pub bounced : Float → Float → Float → Float
+bounced l w d = cond (lt d w) (f64-1 -₆₄ d) (l +₆₄ (d -₆₄ w))
+
+-- where in it a count c from 1 on falls
+abbrev pub looped : Direction → Float → Float → Float
+looped Forward c l = l +₆₄ remEuclid binary64 (c -₆₄ f64-1) (loopLength Forward l)
+looped Reverse c l = l -₆₄ remEuclid binary64 (c -₆₄ f64-1) (loopLength Reverse l)
+looped PingPong c l = let w = loopLength PingPong l in bounced l w (remEuclid binary64 (c -₆₄ f64-1) (f64-2 ×₆₄ w))
+
 -- ---- position, of one cycle and a loop; c is 0 or more
 
 -- from the loopback point to the end
 unfoldable pub forwardLoop : Float → LoopPoint → Float
 forwardLoop c None = f64-1
-forwardLoop c (At l) = cond (lt f64-eps (f64-1 -₆₄ l)) (l +₆₄ remEuclid binary64 (c -₆₄ f64-1) (f64-1 -₆₄ l)) f64-1
+forwardLoop c (At l) = cond (loops Forward l) (looped Forward c l) f64-1
 
 unfoldable pub forwardOnce : Float → LoopPoint → Float
 forwardOnce c l = cond (lt c f64-1) c (forwardLoop c l)
@@ -71,7 +93,7 @@ forwardOnce c l = cond (lt c f64-1) c (forwardLoop c l)
 -- from the loopback point to the start
 unfoldable pub reverseLoop : Float → LoopPoint → Float
 reverseLoop c None = f64-0
-reverseLoop c (At l) = cond (lt f64-eps l) (l -₆₄ remEuclid binary64 (c -₆₄ f64-1) l) f64-0
+reverseLoop c (At l) = cond (loops Reverse l) (looped Reverse c l) f64-0
 
 unfoldable pub reverseOnce : Float → LoopPoint → Float
 reverseOnce c l = cond (lt c f64-1) (f64-1 -₆₄ c) (reverseLoop c l)
@@ -80,15 +102,9 @@ reverseOnce c l = cond (lt c f64-1) (f64-1 -₆₄ c) (reverseLoop c l)
 unfoldable pub backOnce : Float → Float
 backOnce c = cond (lt c f64-2) (f64-2 -₆₄ c) f64-0
 
--- from the end to the loopback point and back: d into a bounce, each way w long
-unfoldable pub bounced : Float → Float → Float → Float
-bounced l w d = cond (lt d w) (f64-1 -₆₄ d) (l +₆₄ (d -₆₄ w))
-
 unfoldable pub pingPongLoop : Float → LoopPoint → Float
 pingPongLoop c None = backOnce c
-pingPongLoop c (At l) =
-    let w = f64-1 -₆₄ l in
-    cond (lt f64-eps w) (bounced l w (remEuclid binary64 (c -₆₄ f64-1) (f64-2 ×₆₄ w))) (backOnce c)
+pingPongLoop c (At l) = cond (loops PingPong l) (looped PingPong c l) (backOnce c)
 
 unfoldable pub pingPongOnce : Float → LoopPoint → Float
 pingPongOnce c l = cond (lt c f64-1) c (pingPongLoop c l)

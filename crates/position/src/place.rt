@@ -11,7 +11,7 @@ pub enum LoopPoint {
 }
 
 // Below this a loop has no length.
-const EPS: f64 = 0.000000001;
+pub const EPS: f64 = 0.000000001;
 
 // Whether a whole number of cycles is odd.
 fn is_odd(cycle: f64) -> bool

@@ -1,4 +1,5 @@
 pub mod Range
+pub mod Moving
 pub mod Reach
 pub mod Limit
 pub mod Prepared

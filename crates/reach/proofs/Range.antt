@@ -1,10 +1,11 @@
 -- Position lies from 0 to 1, both included: for every finite count, every mode and direction, and every loopback from 0 to 1. Assumes nothing.
 use mathlib.Core.Path.{subst}
 use mathlib.Core.Bool.{Bool, true, false, not, _&&_, _||_, cond}
-use Prim.Native.Nat.{ℕ, _+_, _*_, _≤_}
-use native.Mathlib.Omega.{arith}
+use Prim.Native.Nat.{ℕ, _*_, _<_}
 use lib.Dec.{T, ltb→lt}
+use lib.IntN.{ℤ}
 use lib.Ieee.{Float, nan, inf, fin, binary32, binary64, round, up, down, ofBits, add, sub, mul, lt, eq, le, fits, isNan}
+use lib.Ieee.Exact.{HasValue}
 use lib.Ieee.Fits.{up-pos, sub-fits, mul-fits}
 use lib.Ieee.Positive.{positive, positive-finite, positive-of-value, between}
 use lib.Ieee.Scale.{finite}
@@ -13,8 +14,9 @@ use Rattle.floatlaws.specs.Extrema.{maxOf, signed}
 use Rattle.floatlaws.specs.Whole.{InUnit}
 use Rattle.floatlaws.specs.Euclid.{remEuclid}
 use Rattle.floatlaws.specs.Narrow.{narrowed}
-use Rattle.floatlaws.proofs.Order.{le-says, le-trans-at, lt→le, not-lt→le, le-refl-at, between-finite}
+use Rattle.floatlaws.proofs.Order.{le-trans-at, lt→le, not-lt→le, le-refl-at, between-finite}
 use Rattle.floatlaws.proofs.Extrema.{max-bounds}
+use Rattle.floatlaws.proofs.Range.{Within}
 use Rattle.floatlaws.proofs.Whole.{floor-rest}
 use Rattle.floatlaws.proofs.Euclid.{euclid-within}
 use Rattle.floatlaws.proofs.Mono.{add-mono, sub-mono, narrowed-mono}
@@ -28,7 +30,7 @@ use Rattle.position.specs.declared.place.LoopPoint.the-variants.{None, At}
 use Rattle.reach.specs.Bounds.{LoopIn}
 use Rattle.reach.specs.Laws.{PositionIn, NarrowedIn}
 use Rattle.floatlaws.proofs.NoNan.{finite-number}
-use Rattle.floatlaws.proofs.Unit.{zero-float, one-float, two-float, unit-finite, complement, from-one, less-self, less-one, twice, twice-value, twice-less}
+use Rattle.floatlaws.proofs.Unit.{zero-float, one-float, two-float, unit-finite, complement, at-most-one, from-one, less-self, less-one, twice-value, twice-less}
 
 either : (b : Bool) (x y : Float) → (T b → InUnit x) → (T (not b) → InUnit y) → InUnit (cond b x y)
 either true x y h k = h tt
@@ -91,10 +93,36 @@ under l r u a b =
     )
 
 -- a loop's length above `f64-eps` is above zero
-above-eps : (w : Float) → T (lt f64-eps w) → T (le w one-float) → T (positive w)
+pub above-eps : (w : Float) → T (lt f64-eps w) → T (le w one-float) → T (positive w)
 above-eps w h k = between f64-eps w one-float (unfold ofBits in tt) tt (lt→le f64-eps w h) k
 
 -- ---- one cycle and a loop, from 1 on
+
+-- there and back, each way m · 2^e long: above zero, and at most 1
+module _ (m : ℕ) (e : ℤ) (t : T (fits binary64 (fin false m e))) (p : T (positive (fin false m e))) (k : T (le (fin false m e) one-float)) where
+  abbrev way : Float
+  way = fin false m e
+
+  abbrev turn : Float
+  turn = mul binary64 two-float way
+
+  pub turn-value : HasValue turn false (m * up e * 2) (down e)
+  turn-value = twice-value m e t (at-most-one m e k)
+
+  pub turn-size : 0 < m * up e * 2
+  turn-size = mul-pos (mul-pos (ltb→lt 0 m p) (up-pos e)) (zero-lt-suc 1)
+
+  turn-positive : T (positive turn)
+  turn-positive = positive-of-value turn (m * up e * 2) (down e) turn-value turn-size
+
+  -- d of at most a turn, on the way back
+  pub back-within : (d : Float) → T (finite d) → T (le d turn) → T (not (lt d way)) → Within (sub binary64 d way) way
+  back-within d D b h = (
+    le-trans-at zero-float (sub binary64 way way) (sub binary64 d way) (less-self way tt)
+        (sub-mono binary64 way d way way tt D tt tt (not-lt→le d way (finite-number d D) (finite-number way tt) h) (le-refl-at way (finite-number way tt))),
+    subst (λ (z : Float). T (le (sub binary64 d way) z)) (twice-less m e t (at-most-one m e k))
+        (sub-mono binary64 d turn way way D (positive-finite turn turn-positive) tt tt b (le-refl-at way (finite-number way tt))),
+  )
 
 -- d into a bounce over w, which is at most 1 and with l does not pass 1
 bounce-in : (l w x : Float) → InUnit l → T (fits binary64 w) → T (positive w) → T (le w one-float) → T (le (add binary64 l w) one-float) → T (finite x)
@@ -105,22 +133,13 @@ bounce-in l (inf n) x u t p k s q = absurd p
 bounce-in l (fin true m e) x u t p k s q = absurd p
 bounce-in l (fin false m e) x u t p k s q =
     let w = fin false m e in
-    let B = plain (m * up e) (down e) (le-says false false (m * up e * 1) (1 * 1 * down e) (unfold le in k)) in
-    let v = twice-value m e t B in
-    let double = positive-of-value (twice m e t B) (m * up e * 2) (down e) v (mul-pos (mul-pos (ltb→lt 0 m p) (up-pos e)) (zero-lt-suc 1)) in
-    let d = remEuclid binary64 x (twice m e t B) in
-    let r = euclid-within binary64 x (twice m e t B) q double (mul-fits binary64 two-float w) in
-    let D = between-finite zero-float d (twice m e t B) tt (positive-finite (twice m e t B) double) (r .0) (r .1) in
+    let double = mul binary64 two-float w in
+    let d = remEuclid binary64 x double in
+    let r = euclid-within binary64 x double q (turn-positive m e t p k) (mul-fits binary64 two-float w) in
+    let D = between-finite zero-float d double tt (positive-finite double (turn-positive m e t p k)) (r .0) (r .1) in
     either (lt d w) (sub binary64 one-float d) (add binary64 l (sub binary64 d w))
     (λ (h : T (lt d w)). complement d (r .0, le-trans-at d w one-float (lt→le d w h) k))
-    (λ (h : T (not (lt d w))).
-    beside l (sub binary64 d w) w u
-    (le-trans-at zero-float (sub binary64 w w) (sub binary64 d w) (less-self w tt) (sub-mono binary64 w d w w tt D tt tt (not-lt→le d w (finite-number d D) (finite-number w tt) h) (le-refl-at w (finite-number w tt))))
-    (subst (λ (z : Float). T (le (sub binary64 d w) z)) (twice-less m e t B) (sub-mono binary64 d (twice m e t B) w w D (positive-finite (twice m e t B) double) tt tt (r .1) (le-refl-at w (finite-number w tt))))
-    tt s)
-  where
-    plain : (b d : ℕ) → b * 1 + 0 ≤ 1 * 1 * d + 0 → b ≤ d
-    plain b d h = omega arith
+    (λ (h : T (not (lt d w))). let b = back-within m e t p k d D (r .1) h in beside l (sub binary64 d w) w u (b .0) (b .1) tt s)
 
 module _ (c : Float) (C : Count c) (from : T (le one-float c)) where
   -- the count from 1 on

@@ -1,25 +1,32 @@
--- What document 01 says of swing, position and spans, of every count, block and clock within the bounds of Bounds.antt; crate reached has it of every player. Proved in proofs/Range.antt, proofs/Swing.antt, proofs/Limit.antt, proofs/Stopped.antt and proofs/Frame.antt. Assumes nothing.
-use Prim.Native.Nat.{ℕ, _+_, _^_, _≤_}
+-- What document 01 says of swing, position and spans, of every count, block and clock within the bounds of Bounds.antt; crate reached has it of every player.
+-- And up to which count a loop is known not to come to rest (document 02, W-204). Proved in proofs/Range.antt, proofs/Moving.antt, proofs/Swing.antt, proofs/Limit.antt,
+-- proofs/Stopped.antt and proofs/Frame.antt. Assumes nothing.
+use Prim.Native.Nat.{ℕ, _+_, _-_, _^_, _≤_}
 use mathlib.Core.Path.{_≡_}
-use mathlib.Core.Bool.{Bool, not, false}
+use mathlib.Core.Bool.{Bool, not, true, false}
 use lib.Dec.{T}
 use lib.IntN.{pos}
 use lib.Ieee.{Float, fin, binary32, binary64, le, fits, isNan}
 use lib.Ieee.Scale.{finite}
-use Rattle.floatlaws.specs.Numbers.{f64-0}
+use Rattle.floatlaws.specs.Numbers.{f64, f64-0}
 use Rattle.floatlaws.specs.Rounded.{_×₆₄_}
 use Rattle.floatlaws.specs.Whole.{InUnit}
 use Rattle.floatlaws.specs.Narrow.{narrowed}
 use Rattle.floatlaws.specs.Size.{Size, AtLeast}
+use Rattle.settings.specs.declared.choices.LfoType.{LfoType}
 use Rattle.settings.specs.declared.choices.Mode.{Mode}
+use Rattle.settings.specs.declared.choices.Mode.the-variants.{OneShot}
 use Rattle.settings.specs.declared.choices.Direction.{Direction}
 use Rattle.settings.specs.declared.division.Division.{Division}
 use Rattle.settings.specs.declared.times.Span.the-variants as Span
 use Rattle.settings.specs.declared.record.Settings.{Settings}
 use Rattle.settings.specs.declared.record.Transport.{Transport}
-use Rattle.position.specs.Position.{swungBy, positionOf}
+use Rattle.position.specs.Position.{swungBy, loopLength, loops, positionOf}
+use Rattle.position.specs.Rest.{loopbackInForce}
+use Rattle.position.specs.Laws.{Moves}
 use Rattle.position.specs.declared.swing.Swing.{Swing}
 use Rattle.position.specs.declared.place.LoopPoint.{LoopPoint}
+use Rattle.position.specs.declared.place.LoopPoint.the-variants.{At}
 use Rattle.clock.specs.Anchor.{cyclesAt}
 use Rattle.clock.specs.Pace.{limitOf, swingOf}
 use Rattle.clock.specs.Spans.{samplesOf}
@@ -38,6 +45,21 @@ PositionIn = (m : Mode) (d : Direction) (c : Float) (l : LoopPoint) → T (fits 
 -- "Position becomes f32": it stays in 0 to 1
 abbrev pub NarrowedIn : Type 0
 NarrowedIn = (x : Float) → InUnit x → InUnit (narrowed binary32 x)
+
+-- ---- a loop does not come to rest, as far as counts are fine enough
+
+-- in a loop of 2^−q or more, at every count up to 2^(50 − q) some greater count has another position: up to 2^20 cycles in every loop, since 10^−9 is more than 2^−30,
+-- and up to 2^46 in one of 1/16 or more. More cannot be said of f64 counts: with l = 1 − 2^−24 every finite count from 2^28 on is at l going forward.
+abbrev pub LoopMoves : Type 0
+LoopMoves =
+    (d : Direction) (l c : Float) (q : ℕ) → q ≤ 30 → LoopIn (At l) → T (loops d l) → T (le (f64 1 (2 ^ q)) (loopLength d l)) → T (le c (f64 (2 ^ (50 - q)) 1))
+    → Moves OneShot d (At l) c
+
+-- in every loop
+abbrev pub InForceMoves : Type 0
+InForceMoves =
+    (kind : LfoType) (d : Direction) (l : LoopPoint) (c : Float) → LoopIn l → loopbackInForce kind d l ≡ true → T (le c (f64 (2 ^ 20) 1))
+    → Moves OneShot d l c
 
 -- ---- swing
 

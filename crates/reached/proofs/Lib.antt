@@ -3,6 +3,7 @@ pub mod Grid
 pub mod Players
 pub mod Frames
 pub mod Positions
+pub mod Finished
 pub mod Fades
 pub mod Spans
 pub mod Steps

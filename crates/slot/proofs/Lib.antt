@@ -3,4 +3,4 @@ pub mod Anchors
 pub mod Curves
 pub mod Blocks
 pub mod Slots
-pub mod Positions
+pub mod Counts

@@ -5,7 +5,6 @@
 // segments last found, from one block to the next: `CacheIn` of specs/Slot.antt says when they belong to the rest.
 mod cache;
 mod moved;
-mod playing;
 
 pub use cache::Cache;
 pub use cache::is_current;
@@ -15,7 +14,6 @@ pub use moved::Lists;
 pub use moved::loop_point;
 pub use moved::point_count;
 use path::Path;
-pub use playing::finished;
 use points::POINT_BUSES;
 use settings::Settings;
 use shape::Shape;
