@@ -49,7 +49,7 @@ NarrowedIn = (x : Float) → InUnit x → InUnit (narrowed binary32 x)
 -- ---- a loop does not come to rest, as far as counts are fine enough
 
 -- in a loop of 2^−q or more, at every count up to 2^(50 − q) some greater count has another position: up to 2^20 cycles in every loop, since 10^−9 is more than 2^−30,
--- and up to 2^46 in one of 1/16 or more. More cannot be said of f64 counts: with l = 1 − 2^−24 every finite count from 2^28 on is at l going forward.
+-- and up to 2^46 in one of 1/16 or more. Counts are f64s, so it does not go on for ever: going forward with l = 1 − 2^−24 every finite count from 2^28 on is at l.
 abbrev pub LoopMoves : Type 0
 LoopMoves =
     (d : Direction) (l c : Float) (q : ℕ) → q ≤ 30 → LoopIn (At l) → T (loops d l) → T (le (f64 1 (2 ^ q)) (loopLength d l)) → T (le c (f64 (2 ^ (50 - q)) 1))
