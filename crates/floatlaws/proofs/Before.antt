@@ -69,9 +69,13 @@ plain-before n j m (negsuc i) N t h =
     tidy a b h = omega arith
 
 -- from 0 to 1
-pub before : (n j : ℕ) (l : Float) → 2 ^ 23 < n → T (le (fin true 0 (pos 0)) (fin false (n - 1) (negsuc j))) → T (fits binary32 l) → InUnit l → T (lt l (fin false n (negsuc j)))
-    → T (le l (fin false (n - 1) (negsuc j)))
-before n j nan N z t i h = absurd (unfold lt in h)
-before n j (inf s) N z t i h = absurd (unit-finite (inf s) i)
-before n j (fin true m e) N z t i h = subst (λ (y : Float). T (le y (fin false (n - 1) (negsuc j)))) (sym (signed-zero m e (fits-widens (fin true m e) t) (i .0))) z
-before n j (fin false m e) N z t i h = plain-before n j m e N t h
+pub before : (n j : ℕ) (l : Float) → 2 ^ 23 < n → T (fits binary32 l) → InUnit l → T (lt l (fin false n (negsuc j))) → T (le l (fin false (n - 1) (negsuc j)))
+before n j nan N t i h = absurd (unfold lt in h)
+before n j (inf s) N t i h = absurd (unit-finite (inf s) i)
+before n j (fin true m e) N t i h =
+    subst (λ (y : Float). T (le y (fin false (n - 1) (negsuc j)))) (sym (signed-zero m e (fits-widens (fin true m e) t) (i .0)))
+    (unfold le in says-le true false (0 * 1 * 2 ^ suc j) ((n - 1) * 1 * 1) (least (2 ^ suc j) (n - 1)))
+  where
+    least : (a b : ℕ) → 0 + 0 ≤ b * 1 * 1 + 0 * 1 * a
+    least a b = omega arith
+before n j (fin false m e) N t i h = plain-before n j m e N t h

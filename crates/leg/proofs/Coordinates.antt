@@ -16,7 +16,8 @@ use Rattle.floatlaws.specs.Whole.{wholeOf, toZero}
 use Rattle.floatlaws.specs.Numbers.{Between, f32-0, f32-1, f64-4096}
 use Rattle.floatlaws.specs.Multiples.{isMultiple, multiplesIn}
 use Rattle.floatlaws.proofs.Extrema.{clamp-inside, clamp-bounds, clamp-fits}
-use Rattle.floatlaws.proofs.Order.{le-says, lt-not-le}
+use Rattle.floatlaws.proofs.Tests.{and-false}
+use Rattle.floatlaws.proofs.Order.{le-says, le-not-lt}
 use Rattle.floatlaws.proofs.Multiples.{multiple-exact, scaled-value, multiple-tested, unsigned-value}
 use Rattle.leg.specs.Paper.{onPaper, squaresOf, PaperExact, PaperKept}
 
@@ -28,10 +29,6 @@ unfolding ofBits
 scale-is = refl
 
 -- ---- the test of `on_paper`
-
-and-false : (a : Bool) → (a && false) ≡ false
-and-false true = refl
-and-false false = refl
 
 pub paper-tested : (c : Float) → T (fits binary32 c) → (eq (wholeOf binary64 toZero (scaled c)) (scaled c) && le f32-0 c && le c f32-1) ≡ onPaper c
 unfolding onPaper
@@ -112,15 +109,8 @@ parts c on =
     let b = and-l a (le c f32-1) on in
     (and-l (isMultiple 4096 c) (le f32-0 c) b, and-r (isMultiple 4096 c) (le f32-0 c) b, and-r a (le c f32-1) on)
 
-not-less : (x y : Float) → T (le y x) → lt x y ≡ false
-not-less x y h = go (lt x y) (λ (u : T (lt x y)). lt-not-le x y u h)
-  where
-    go : (b : Bool) → (T b → ⊥) → b ≡ false
-    go true f = absurd (f tt)
-    go false f = refl
-
 pub paper-kept : PaperKept
-paper-kept c on = sym (clamp-inside c f32-0 f32-1 (not-less c f32-0 (parts c on .1)) (not-less f32-1 c (parts c on .2)))
+paper-kept c on = sym (clamp-inside c f32-0 f32-1 (le-not-lt c f32-0 (parts c on .1)) (le-not-lt f32-1 c (parts c on .2)))
 
 pub paper-exact : PaperExact
 paper-exact c on = rw (sym squares) (record { value = multiple-exact 4096 c (parts c on .0); sign = no-sign c (parts c on .1) })

@@ -24,7 +24,7 @@ abbrev before-one : Float
 before-one = fin false (2 ^ 24 - 1) (negsuc 23)
 
 below-one : (l : Float) → T (fits binary32 l) → InUnit l → T (lt l one-float) → T (le l before-one)
-below-one l t i h = before (2 ^ 24) 23 l (lit≤ tt) (unfold le in tt) t i (lt-of-lt-of-le-at l one-float (fin false (2 ^ 24) (negsuc 23)) h (unfold le in tt))
+below-one l t i h = before (2 ^ 24) 23 l (lit≤ tt) t i (lt-of-lt-of-le-at l one-float (fin false (2 ^ 24) (negsuc 23)) h (unfold le in tt))
 
 enough : T (lt f64-eps (sub binary64 one-float before-one))
 unfolding lt sub ofBits
@@ -64,7 +64,7 @@ unfolding lt ofBits
 near-not h = h
 
 below-next : (l : Float) → T (fits binary32 l) → InUnit l → T (lt l next) → T (le l near)
-below-next l t i h = before 0x89_7060 52 l (lit≤ tt) (unfold le in tt) t i (lt-of-lt-of-le-at l next (fin false 0x89_7060 (negsuc 52)) h (unfold le ofBits in tt))
+below-next l t i h = before 0x89_7060 52 l (lit≤ tt) t i (lt-of-lt-of-le-at l next (fin false 0x89_7060 (negsuc 52)) h (unfold le ofBits in tt))
 
 above : (l : Float) → T (fits binary32 l) → InUnit l → lt f64-eps l ≡ le next l
 above l t i =

@@ -7,10 +7,11 @@ use lib.IntN.{pos}
 use lib.Ieee.{Float, nan, inf, fin, binary64, ofBits, sub, lt, eq, le, fits, isNan}
 use lib.Ieee.Bits.{is-true, is-false}
 use lib.Ieee.Fits.{and-l, and-r}
+use lib.Ieee.Scale.{finite}
 use Rattle.floatlaws.specs.Extrema.{maxOf}
 use Rattle.floatlaws.specs.Numbers.{f64-0, f64-1, f64-2}
 use Rattle.floatlaws.proofs.Tests.{decide, yes-so}
-use Rattle.floatlaws.proofs.Order.{le-trans-at, le-refl-at, lt-not-le, lt-irrefl-at, lt-of-lt-of-le-at, not-le→lt}
+use Rattle.floatlaws.proofs.Order.{le-trans-at, le-refl-at, le-not-lt, lt-irrefl-at, lt-of-lt-of-le-at, not-le→lt}
 use Rattle.floatlaws.proofs.Extrema.{max-more, max-bounds, max-either, max-of-nan}
 use Rattle.floatlaws.proofs.Unit.{zero-float, one-float}
 use Rattle.floatlaws.proofs.Less.{less-above, one-less-above}
@@ -26,10 +27,6 @@ use Rattle.position.specs.Rest.{loopsBack, loopbackInForce, restFrom, fi
 use Rattle.position.specs.Laws.{PositionLoops, Moves, ReadsAt, restAt, FinishedRests, UnfinishedMoves}
 
 -- ---- a One-shot's count, brought to 0 or more
-
-no : (b : Bool) → (T b → ⊥) → b ≡ false
-no true k = absurd (k tt)
-no false k = refl
 
 zero-below-one : T (lt f64-0 f64-1)
 unfolding lt ofBits
@@ -48,7 +45,7 @@ count-stays : (c : Float) → T (le f64-1 c) → maxOf c f64-0 ≡ c
 count-stays c h = sym (max-more c f64-0 (is-true (lt f64-0 c) (lt-of-lt-of-le-at f64-0 f64-1 c zero-below-one h)))
 
 from-one : (c : Float) → T (le f64-1 c) → lt (maxOf c f64-0) f64-1 ≡ false
-from-one c h = ap (λ (z : Float). lt z f64-1) (count-stays c h) ∙ no (lt c f64-1) (λ (k : T (lt c f64-1)). lt-not-le c f64-1 k h)
+from-one c h = ap (λ (z : Float). lt z f64-1) (count-stays c h) ∙ le-not-lt c f64-1 h
 
 -- below 1 it stays below 1
 below-one : (c : Float) → T (not (le f64-1 c)) → lt (maxOf c f64-0) f64-1 ≡ true
@@ -102,7 +99,7 @@ rests Forward c h = rw (from-one c h)
 rests Reverse c h = rw (from-one c h)
 rests PingPong c h =
     let k = le-trans-at f64-1 f64-2 c one-le-two h in
-    rw (from-one c k, count-stays c k, no (lt c f64-2) (λ (z : T (lt c f64-2)). lt-not-le c f64-2 z h))
+    rw (from-one c k, count-stays c k, le-not-lt c f64-2 h)
 
 -- of a type that reads its position: whether it loops, and from where on it rests
 in-force : (kind : LfoType) (d : Direction) (l : LoopPoint) → ReadsAt kind l → loopbackInForce kind d l ≡ loopsBack d l
@@ -178,39 +175,28 @@ back-above (inf false) t h k = absurd (unfold lt in k)
 back-above (fin true m e) t h k = absurd (unfold lt in lt-of-lt-of-le-at zero-float one-float (fin true m e) zero-below-one h)
 back-above (fin false m e) t h k = less-above m e 1 (pos 1) t (unfold fits in tt) k
 
--- a greater count where position is known: 1 or 2
-module _ (d : Direction) (c : Float) (l : LoopPoint) (n : loopsBack d l ≡ false) where
-  at-one : T (lt c f64-1) → (positionOf OneShot d f64-1 None ≡ positionOf OneShot d c None → ⊥) → Moves OneShot d l c
-  at-one g e =
-      record {
-        later = f64-1;
-        is-f64 = unfold fits ofBits in tt;
-        is-finite = unfold ofBits in tt;
-        greater = g;
-        elsewhere = λ h. e (sym (no-loop d f64-1 l n) ∙ h ∙ no-loop d c l n);
-      }
+-- with no loop, a greater count where the position without a loopback is another
+moves-to : (d : Direction) (c later : Float) (l : LoopPoint) → loopsBack d l ≡ false → T (fits binary64 later) → T (finite later) → T (lt c later)
+    → (positionOf OneShot d later None ≡ positionOf OneShot d c None → ⊥) → Moves OneShot d l c
+moves-to d c later l n t k g e =
+    record { later = later; is-f64 = t; is-finite = k; greater = g; elsewhere = λ h. e (sym (no-loop d later l n) ∙ h ∙ no-loop d c l n) }
 
-  at-two : T (lt c f64-2) → (positionOf OneShot d f64-2 None ≡ positionOf OneShot d c None → ⊥) → Moves OneShot d l c
-  at-two g e =
-      record {
-        later = f64-2;
-        is-f64 = unfold fits ofBits in tt;
-        is-finite = unfold ofBits in tt;
-        greater = g;
-        elsewhere = λ h. e (sym (no-loop d f64-2 l n) ∙ h ∙ no-loop d c l n);
-      }
+to-one : (d : Direction) (c : Float) (l : LoopPoint) → loopsBack d l ≡ false → T (not (isNan c)) → T (not (le f64-1 c))
+    → (positionOf OneShot d f64-1 None ≡ positionOf OneShot d c None → ⊥) → Moves OneShot d l c
+to-one d c l n k h e = moves-to d c f64-1 l n (unfold fits ofBits in tt) (unfold ofBits in tt) (not-le→lt f64-1 c one-number k h) e
 
 moves : (d : Direction) (c : Float) (l : LoopPoint) → loopsBack d l ≡ false → T (fits binary64 c) → T (not (isNan c)) → T (not (le (restFrom d) c)) → Moves OneShot d l c
-moves Forward c l n t k h =
-    at-one Forward c l n (not-le→lt f64-1 c one-number k h) (λ e. not-one c h (sym (forward-at c h) ∙ sym e ∙ rests Forward f64-1 (le-refl-at f64-1 one-number)))
+moves Forward c l n t k h = to-one Forward c l n k h (λ e. not-one c h (sym (forward-at c h) ∙ sym e ∙ rests Forward f64-1 (le-refl-at f64-1 one-number)))
 moves Reverse c l n t k h =
-    at-one Reverse c l n (not-le→lt f64-1 c one-number k h)
+    to-one Reverse c l n k h
     (λ e. not-zero (sub binary64 f64-1 (maxOf c f64-0)) (reverse-above c t k h) (sym (reverse-at c h) ∙ sym e ∙ rests Reverse f64-1 (le-refl-at f64-1 one-number)))
 moves PingPong c l n t k h =
     let g = not-le→lt f64-2 c two-number k h in
     elim (decide (le f64-1 c)) [
-      | inl u ↦ at-two PingPong c l n g (λ e. not-zero (sub binary64 f64-2 c) (back-above c t u g) (sym (back-at c u g) ∙ sym e ∙ rests PingPong f64-2 (le-refl-at f64-2 two-number)))
-      | inr u ↦ at-one PingPong c l n (not-le→lt f64-1 c one-number k u) (λ e. not-one c u (sym (ping-pong-at c u) ∙ sym e ∙ turned))
+      | inl u ↦
+          moves-to PingPong c f64-2 l n (unfold fits ofBits in tt) (unfold ofBits in tt) g
+          (λ e. not-zero (sub binary64 f64-2 c) (back-above c t u g) (sym (back-at c u g) ∙ sym e ∙ rests PingPong f64-2 (le-refl-at f64-2 two-number)))
+      | inr u ↦ to-one PingPong c l n k u (λ e. not-one c u (sym (ping-pong-at c u) ∙ sym e ∙ turned))
     ]
 
 pub unfinished-moves : UnfinishedMoves

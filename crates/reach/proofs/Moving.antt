@@ -5,7 +5,7 @@ use mathlib.Core.Bool.{Bool, true, false, not, false≢true}
 use Prim.Native.Nat.{ℕ, suc, _+_, _-_, _*_, _%_, _^_, _≤_, _<_}
 use native.Mathlib.Nat.{le-trans, le-of-eq, le-of-lt, lt-of-le-of-lt, zero-lt-suc, mul-pos, mul-one, mul-comm, mul-assoc, mul-right-comm, add-mul, mul-le-mul-right, mul-le-mul-left, mod-lt, mod-eq-of-lt, mod-add-mod, add-mul-mod-self-left}
 use native.Mathlib.Omega.{arith}
-use lib.Dec.{T, not-T, ltb, ltb→lt, lt→ltb, nltb→le, lit≤, lit<}
+use lib.Dec.{T, ltb, ltb→lt, lt→ltb, nltb→le, lit≤, lit<}
 use lib.Pow.{pow-add, pow-pos, pow-mono}
 use lib.IntN.{ℤ}
 use lib.Ieee.{Float, nan, inf, fin, binary64, up, down, round, ofBits, add, sub, mul, lt, le, fits}
@@ -19,7 +19,7 @@ use Rattle.floatlaws.specs.Euclid.{remEuclid}
 use Rattle.floatlaws.specs.Numbers.{f64, f64-eps, f64-1}
 use Rattle.floatlaws.proofs.Tests.{decide, yes-so}
 use Rattle.floatlaws.proofs.Same.{same-or-not}
-use Rattle.floatlaws.proofs.Order.{le-trans-at, lt→le, lt-not-le, lt-of-le-of-lt-at, not-lt→le, between-finite}
+use Rattle.floatlaws.proofs.Order.{le-trans-at, le-not-lt, lt→le, lt-of-le-of-lt-at, not-lt→le, between-finite}
 use Rattle.floatlaws.proofs.NoNan.{finite-number}
 use Rattle.floatlaws.proofs.Range.{at-least-zero}
 use Rattle.floatlaws.proofs.Euclid.{euclid-plain, euclid-within, rem-by-value}
@@ -198,8 +198,7 @@ module _ (q : ℕ) (Q : q ≤ 30) where
     rest-is k K =
         let r = round binary64 false (left k) (2 ^ p * unit) in
         let e = rem-by-value binary64 (more k) t false false (steps k) (2 ^ p) size unit (pow-pos p) S U (more-value k K) v in
-        let above = not-T (lt r zero-float) (λ (h : T (lt r zero-float)). lt-not-le r zero-float h (at-least-zero binary64 (left k) (2 ^ p * unit) unit-pos)) in
-        sym (euclid-plain binary64 (more k) t (rw e (is-false (lt r zero-float) above))) ∙ e
+        sym (euclid-plain binary64 (more k) t (rw e (le-not-lt r zero-float (at-least-zero binary64 (left k) (2 ^ p * unit) unit-pos)))) ∙ e
 
     -- two of them, the first the smaller one
     rests-spread : (k j e : ℕ) → k ≤ 4 → j ≤ 4 → 2 * unit ≤ e → left k + e ≤ left j → Spread p 2 (rest k) (rest j)

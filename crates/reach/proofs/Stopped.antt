@@ -7,11 +7,12 @@ use native.Mathlib.Omega.{arith}
 use lib.Dec.{T, leb, lit≤}
 use lib.IntN.{pos, negsuc}
 use lib.Ieee.{Float, nan, inf, fin, binary64, up, down, round, div, lt, eq, le, isNan, ofBits, toUnsigned}
+use lib.Ieee.Bits.{is-true}
 use lib.Ieee.Fits.{down-pos}
 use lib.Ieee.Order.{round-mono}
 use Rattle.floatlaws.specs.Extrema.{maxOf, clampOf}
 use Rattle.floatlaws.specs.Whole.{wholeOf, wholeSize, toHalf}
-use Rattle.floatlaws.proofs.Order.{le-says, lt-of-lt-of-le-at, lt-trans-at, lt-irrefl-at}
+use Rattle.floatlaws.proofs.Order.{le-says, le-not-lt, lt→le, lt-of-lt-of-le-at, lt-trans-at}
 use Rattle.floatlaws.proofs.Extrema.{clamp-high}
 use Rattle.floatlaws.specs.Numbers.{f64-0, f64-least, f64-longest}
 use Rattle.settings.specs.Divisions.{beatsOf, spanDivision}
@@ -73,15 +74,9 @@ whole-large (fin false m e) h =
     tidy q h = omega arith
 
 capped : (w : Float) → T (lt f64-longest w) → clampOf w f64-0 f64-longest ≡ f64-longest
-capped w h = sym (clamp-high w f64-0 f64-longest (no (lt w f64-0) (λ (z : T (lt w f64-0)). lt-irrefl-at w (lt-trans-at w f64-longest w (lt-trans-at w f64-0 f64-longest z (unfold lt ofBits in tt)) h))) (yes (lt f64-longest w) h))
-  where
-    yes : (b : Bool) → T b → b ≡ true
-    yes true h = refl
-    yes false h = absurd h
-
-    no : (b : Bool) → (T b → ⊥) → b ≡ false
-    no true h = absurd (h tt)
-    no false h = refl
+capped w h =
+    let above = lt-trans-at f64-0 f64-longest w (unfold lt ofBits in tt) h in
+    sym (clamp-high w f64-0 f64-longest (le-not-lt w f64-0 (lt→le f64-0 w above)) (is-true (lt f64-longest w) h))
 
 no-beat : maxOf f64-0 f64-least ≡ f64-least
 unfolding maxOf ofBits lt eq isNan

@@ -10,7 +10,7 @@ use lib.Dec.{T, ltb}
 use lib.Ieee.{Float, binary64, ofBits, le, fits, isNan}
 use Rattle.floatlaws.specs.Numbers.{f64-0}
 use Rattle.floatlaws.specs.Size.{Size}
-use Rattle.floatlaws.proofs.Tests.{yes-so}
+use Rattle.floatlaws.proofs.Tests.{and-false, yes-so}
 use Rattle.floatlaws.proofs.NoNan.{finite-number}
 use Rattle.floatlaws.proofs.Size.{size-finite}
 use Rattle.settings.specs.declared.choices.LfoType.{LfoType}
@@ -141,11 +141,7 @@ nothing : (kind : LfoType) (m : Mode) (d : Direction) (l : LoopPoint) → finish
 unfolding finishedOf
 nothing kind Free d l = refl
 nothing kind Restart d l = refl
-nothing kind OneShot d l = ap (λ (b : Bool). not (loopbackInForce kind d l) && b) (zero-below kind d) ∙ never (not (loopbackInForce kind d l))
-  where
-    never : (b : Bool) → b && false ≡ false
-    never true = refl
-    never false = refl
+nothing kind OneShot d l = ap (λ (b : Bool). not (loopbackInForce kind d l) && b) (zero-below kind d) ∙ and-false (not (loopbackInForce kind d l))
 
 empty-count : (p : State) (t : Transport) (at : Pending) → endCount p t 0 at ≡ f64-0
 unfolding partsCount lastCount

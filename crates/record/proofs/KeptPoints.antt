@@ -14,6 +14,7 @@ use lib.Ieee.Bits.{ofBits-fits}
 use lib.Ieee.Scale.{finite}
 use Rattle.floatlaws.specs.Numbers.{f32-0, f32-1, f32-minus1}
 use Rattle.floatlaws.proofs.Tests.{yes-so}
+use Rattle.floatlaws.proofs.Order.{le-not-lt}
 use Rattle.listlaws.specs.Tables.{tabulate, padded, inserted}
 use Rattle.listlaws.proofs.LastWhere.{back, last-found, last-none}
 use Rattle.listlaws.proofs.Tabulation.{length-tabulate, getD-padded}
@@ -39,7 +40,7 @@ use Rattle.record.specs.Promises.{ModTyped, PointTyped, ShapeTyped}
 use Rattle.record.proofs.Lists.{getD-map, getD-inside, map-padded, map-filled}
 use Rattle.record.proofs.Agreements.{ModOk, PointOk, LoopbackOk, PointsOk, ShapeOk, finite-no-nan}
 use Rattle.record.proofs.KeptSettings.{loopback-same}
-use Rattle.record.proofs.Tests.{says, both, every-of, not-below, inside, unit-in, bend-in, unit-finite, bend-finite, unit-typed, bend-typed}
+use Rattle.record.proofs.Tests.{says, both, every-of, inside, unit-in, bend-in, unit-finite, bend-finite, unit-typed, bend-typed}
 
 -- ---- modulations
 
@@ -99,7 +100,7 @@ module _ (l : List Point) where
   slot-last (suc m) h up =
       let size : length (take (suc m) l) ≡ suc m = length-take-le (suc m) l (omega arith) in
       let before : getD (take (suc m) l) m noPoint ≡ getD l m noPoint = getD-take (suc m) l m noPoint (omega arith) in
-      let stays = ap not (not-below (getD l (suc m) noPoint .x) (getD l m noPoint .x) (up m (omega arith))) in
+      let stays = ap not (le-not-lt (getD l (suc m) noPoint .x) (getD l m noPoint .x) (up m (omega arith))) in
       rw size (last-found _ (suc m) (omega arith) (rw (back m, before) stays))
 
   insert-last : (n : ℕ) → n < length l → Ascends (suc n) → insertPoint (take n l) (getD l n noPoint) ≡ take (suc n) l

@@ -4,13 +4,13 @@ use mathlib.Core.Path.{_≡_, refl, sym}
 use mathlib.Core.Bool.{Bool, true, false, _&&_, cond, true≢false, false≢true}
 use native.Mathlib.Nat.{le-refl}
 use native.Mathlib.Omega.{arith}
-use lib.Dec.{T, not-T}
-use lib.Ieee.{Float, binary32, neg, ofBits, fits, lt, le}
-use lib.Ieee.Bits.{is-false, ofBits-fits}
+use lib.Dec.{T}
+use lib.Ieee.{Float, binary32, neg, ofBits, fits, le}
+use lib.Ieee.Bits.{ofBits-fits}
 use lib.Ieee.Scale.{finite}
 use Rattle.floatlaws.specs.Numbers.{f32-0, f32-1, f32-minus1}
 use Rattle.floatlaws.specs.Extrema.{clampOf}
-use Rattle.floatlaws.proofs.Order.{lt-not-le, between-finite}
+use Rattle.floatlaws.proofs.Order.{le-not-lt, between-finite}
 use Rattle.floatlaws.proofs.Extrema.{clamp-inside, clamp-fits}
 use Rattle.floatlaws.proofs.Tests.{yes-so}
 use Rattle.points.proofs.Floats.{unit-clamped, bend-clamped}
@@ -54,13 +54,10 @@ module _ {A : Type 0} where
 
 -- ---- clamps
 
-pub not-below : (x y : Float) → T (le y x) → lt x y ≡ false
-not-below x y h = is-false (lt x y) (not-T (lt x y) (λ l. lt-not-le x y l h))
-
 pub inside : (lo x hi : Float) → between lo x hi ≡ true → clampOf x lo hi ≡ x
 inside lo x hi h =
     let (from, to) = and-true (le lo x) (le x hi) h in
-    sym (clamp-inside x lo hi (not-below x lo (yes-so from)) (not-below hi x (yes-so to)))
+    sym (clamp-inside x lo hi (le-not-lt x lo (yes-so from)) (le-not-lt hi x (yes-so to)))
 
 pub unit-in : (x : Float) → NoNan x → inUnit (clampOf x f32-0 f32-1) ≡ true
 unit-in x h = let y = clampOf x f32-0 f32-1 in let (from, to) = unit-clamped x h in both-say (le f32-0 y) (le y f32-1) from to
