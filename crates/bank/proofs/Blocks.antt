@@ -41,6 +41,15 @@ module _ (s : Settings) (q : Curve) (b : Block) where
   abbrev size : (from : ℕ) (f : Frame → Float) (n : ℕ) (v : Voice) → length (values from f n v) ≡ n
   size = length-outs (s .kind) (s .mode) (s .direction) q b
 
+  -- a stretch leaves both buffers as long as they were
+  module _ {v u : Voice} {kept : Kept} {last : Float} {from count : ℕ} {x y x′ y′ : List Float} {r : Rendered} (asked : Stretch s q b v kept from count x y)
+      (h : Renders s q b u last from count x y r x′ y′) where
+    pub x-long : length x′ ≡ length x
+    x-long = ap length (h .x-is) ∙ length-over x from _ (omega (arith, size from (λ f. f .x) count u, asked .room-x))
+
+    pub y-long : length y′ ≡ length y
+    y-long = ap length (h .y-is) ∙ length-over y from _ (omega (arith, size from (λ f. f .y) count u, asked .room-y))
+
   -- what a stretch asks of its voice before it is begun holds of the voice that is begun
   pub begun-stretch : {v : Voice} {kept : Kept} {from count : ℕ} {x y : List Float} (w : Voice) → w ≡ begunVoice s b from v → Stretch s q b v kept from count x y → Stretch s q b w kept from count x y
   begun-stretch {v} {kept} {from} w e h =

@@ -1,3 +1,4 @@
 pub mod Frames
 pub mod Counts
 pub mod Blocks
+pub mod Stages

@@ -2,7 +2,9 @@
 -- Assumes nothing.
 use Prim.Native.Nat.{ℕ, _-_, min}
 use mathlib.Core.Path.{_≡_}
+use mathlib.Core.Bool.{cond}
 use mathlib.Core.List.{List, _++_}
+use lib.Dec.{eqb}
 use lib.ListN.{drop}
 use lib.Ieee.{Float}
 use Rattle.floatlaws.specs.Numbers.{f64-0}
@@ -55,6 +57,22 @@ module _ (s : Settings) (q : Curve) (b : Block) (frames : ℕ) (v : Voice) where
   unfoldable pub partsCount : Pending → Float
   partsCount None = last 0 frames begun f64-0
   partsCount (At at) = let k = min at frames in last k (frames - k) (restarted k) (last 0 k begun f64-0)
+
+-- ---- how the code goes through it
+
+-- how many stretches there are
+unfoldable pub stretchesOf : Pending → ℕ
+stretchesOf None = 1
+stretchesOf (At at) = 2
+
+-- where the first of them ends
+unfoldable pub firstEnd : Pending → ℕ → ℕ
+firstEnd None frames = frames
+firstEnd (At at) frames = min at frames
+
+-- the voice after a stretch: restarted where another one is left
+unfoldable pub betweenOf : ℕ → Settings → Block → Voice → Voice
+betweenOf left s b v = cond (eqb left 0) v (triggeredVoice s b v)
 
 -- ---- the code's promises
 

@@ -13,7 +13,7 @@ ghost use Prim.Native.Nat.{_≤_, min};
 ghost use Rattle.voice.specs.Curve.{curveBy};
 ghost use Rattle.voice.specs.Voice.{begunVoice};
 ghost use Rattle.bank.specs.Render.{Stretch, Renders};
-ghost use Rattle.bank.specs.Parts.{PlaysParts};
+ghost use Rattle.bank.specs.Parts.{stretchesOf, firstEnd, betweenOf, PlaysParts};
 
 // A restart asked for in a block, if any: just before this frame.
 pub enum Pending {
@@ -76,7 +76,38 @@ fn begin_stretch<'a>(
     )
 }
 
-// Renders a voice over the whole block of `frames` frames, restarting it where `at` says. The points' arrays are lent.
+// How many stretches a block has: a restart makes it two.
+fn stretches(at: Pending) -> usize
+    ensures { λ r. ⌜ r ≡ stretchesOf at ⌝ }
+{
+    match at {
+        Pending::None => 1,
+        Pending::At(_) => 2,
+    }
+}
+
+// Where the first of them ends.
+fn first_end(at: Pending, frames: usize) -> usize
+    ensures { λ r. ⌜ r ≡ firstEnd at frames ⌝ }
+{
+    match at {
+        Pending::None => frames,
+        Pending::At(k) => lesser(k, frames),
+    }
+}
+
+// The voice after a stretch: restarted where another one is left.
+fn between(left: usize, s: Settings, block: Block, v: Voice) -> Voice
+    ensures { λ r. ⌜ r ≡ betweenOf left s block v ⌝ }
+{
+    if left == 0 {
+        return v;
+    }
+    voice::trigger(s, block, v)
+}
+
+// Renders a voice over the whole block of `frames` frames, restarting it where `at` says. The points' arrays are lent. The stretches are played in
+// a loop, so that `begin_stretch` has one call site and is inlined.
 pub fn render_parts<'a>(
     s: Settings,
     block: Block,
@@ -98,8 +129,14 @@ pub fn render_parts<'a>(
     requires { ⌜ Stretch s (curveBy (now xs) (now ys) (now es) (now steps) n (now times) closed loopback) block v kept 0 frames (now x) (now y) ⌝ }
     ensures { λ r. ⌜ PlaysParts s (curveBy (now (xs .entry)) (now (ys .entry)) (now (es .entry)) (now (steps .entry)) n (now (times .entry)) closed loopback) block v at frames (now (x .entry)) (now (y .entry)) r (now (x .exit)) (now (y .exit)) ⌝ }
 {
-    match at {
-        Pending::None => begin_stretch(
+    let mut w = v;
+    let mut held = kept;
+    let mut last = 0.0f64;
+    let mut from = 0usize;
+    let mut end = first_end(at, frames);
+    let mut left = stretches(at);
+    while left > 0 {
+        let a = begin_stretch(
             s,
             block,
             xs,
@@ -110,57 +147,27 @@ pub fn render_parts<'a>(
             times,
             closed,
             loopback,
-            v,
-            kept,
-            0.0,
-            0,
-            frames,
+            w,
+            held,
+            last,
+            from,
+            end - from,
             x,
             y,
-        ),
-        Pending::At(k) => {
-            let split = lesser(k, frames);
-            let a = begin_stretch(
-                s,
-                block,
-                xs,
-                ys,
-                es,
-                steps,
-                n,
-                times,
-                closed,
-                loopback,
-                v,
-                kept,
-                0.0,
-                0,
-                split,
-                x,
-                y,
-            );
-            let before = a.voice;
-            let w = voice::trigger(s, block, before);
-            let held = a.kept;
-            begin_stretch(
-                s,
-                block,
-                xs,
-                ys,
-                es,
-                steps,
-                n,
-                times,
-                closed,
-                loopback,
-                w,
-                held,
-                a.count,
-                split,
-                frames - split,
-                x,
-                y,
-            )
-        }
+        );
+        left -= 1;
+        let before = a.voice;
+        let after = between(left, s, block, before);
+        w = after;
+        let found = a.kept;
+        held = found;
+        last = a.count;
+        from = end;
+        end = frames;
+    }
+    Rendered {
+        voice: w,
+        kept: held,
+        count: last,
     }
 }

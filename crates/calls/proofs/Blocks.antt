@@ -39,9 +39,8 @@ use Rattle.bank.specs.declared.parts.Pending.{Pending}
 use Rattle.bank.specs.declared.parts.Pending.the-variants.{None, At}
 use Rattle.bank.specs.Parts.{begun, restarted, partsOuts}
 use Rattle.bank.proofs.Frames.{length-outs}
-use Rattle.slot.specs.declared.Lfo.{Lfo}
 use Rattle.slot.specs.Moved.{shapeLists, listsOf, loopOf, movedCurve}
-use Rattle.slot.specs.Slot.{slotCurve}
+use Rattle.slot.specs.Slot.{Lfo, slotCurve}
 use Rattle.codes.specs.declared.RestartCodes.{RestartCodes}
 use Rattle.questions.proofs.Facts.{BlockAccepted, block-accepted}
 use Rattle.calls.specs.State.{State}

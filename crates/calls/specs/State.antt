@@ -10,8 +10,7 @@ use Rattle.settings.specs.declared.record.Settings.{Settings}
 use Rattle.settings.specs.Records.{clampedSettings}
 use Rattle.voice.specs.declared.Voice.{Voice}
 use Rattle.voice.specs.Voice.{newVoice}
-use Rattle.slot.specs.declared.Lfo.{Lfo}
-use Rattle.slot.specs.Slot.{newLfo}
+use Rattle.slot.specs.Slot.{Lfo, newLfo}
 
 -- its settings, curves, buses and clock; its voice; and the frames played since it was made
 pub record State : Type 0 where

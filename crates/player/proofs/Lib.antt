@@ -2,6 +2,5 @@ pub mod Answers
 pub mod Players
 pub mod Makings
 pub mod Sets
-pub mod Rendering
 pub mod Blocks
 pub mod Readings

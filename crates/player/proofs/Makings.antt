@@ -1,5 +1,5 @@
 -- What making a player gives, of the equations of what it calls. Assumes nothing.
-use Prim.Native.Nat.{ℕ}
+use Prim.Native.Nat.{ℕ, _^_, _<_}
 use mathlib.Core.Path.{_≡_, refl, sym, subst, _∙_}
 use mathlib.Core.Bool.{Bool, true, false, cond}
 use borrow.Author.Tests.{eqb-true}
@@ -12,13 +12,14 @@ use Rattle.settings.specs.declared.record.SettingsCode.the-variants as Settings
 use Rattle.settings.specs.Codes.{settingsAt}
 use Rattle.settings.specs.Records.{defaultSettings}
 use Rattle.reach.specs.Bounds.{SettingsIn}
-use Rattle.slot.specs.declared.Slot.{Slot}
-use Rattle.slot.specs.Slot.{newSlot, StoredIn}
+use Rattle.slot.specs.declared.page.Page.{Page}
+use Rattle.slot.specs.Page.{newPage}
 use Rattle.questions.specs.Questions.{firstNo, settingsQuestions}
 use Rattle.questions.proofs.Facts.{settings-in}
 use Rattle.calls.specs.State.{newState}
 use Rattle.calls.specs.Calls.{bySettings, noPlayer, made}
-use Rattle.player.specs.Player.{stateOf}
+use Rattle.player.specs.declared.Deck.{Deck}
+use Rattle.player.specs.Player.{stateOf, newDeck}
 use Rattle.player.specs.Promises.{firstSettings, Makes}
 use Rattle.player.proofs.Players.{new-valid}
 
@@ -35,25 +36,26 @@ module _ (c : SettingsCodes) (seed : ℕ) where
   made-is true SettingsCode.Unknown = refl
   made-is false k = refl
 
-  first-is : stateOf (record { slot = newSlot (firstSettings (firstNo (settingsQuestions c)) c) seed; played = 0 }) ≡ made c seed
+  first-is : stateOf (record { page = newPage (firstSettings (firstNo (settingsQuestions c)) c); deck = newDeck seed }) ≡ made c seed
   unfolding firstSettings made newState
   first-is = made-is (eqb (firstNo (settingsQuestions c)) 0) (settingsAt c)
 
   module _ (a : ℕ) (asked : a ≡ firstNo (settingsQuestions c)) where
-    first-in : StoredIn (firstSettings a c)
+    first-in : firstSettings a c .«grid_x» < 2 ^ 16 → SettingsIn (firstSettings a c)
     unfolding firstSettings
     first-in = go (eqb a 0) refl (settingsAt c) refl
       where
-        go : (b : Bool) → eqb a 0 ≡ b → (k : SettingsCode) → settingsAt c ≡ k → StoredIn (cond b (bySettings defaultSettings k (λ s. s)) defaultSettings)
+        go : (b : Bool) → eqb a 0 ≡ b → (k : SettingsCode) → settingsAt c ≡ k
+            → let first = cond b (bySettings defaultSettings k (λ s. s)) defaultSettings in first .«grid_x» < 2 ^ 16 → SettingsIn first
         go true e (SettingsCode.Known s) known g = settings-in c (sym asked ∙ eqb-true a 0 e) s known g
         go true e SettingsCode.Unknown known g = default-in
         go false e k known g = default-in
 
-    pub makes-player : (s : Settings) (r : Slot) → s ≡ firstSettings a c → r ≡ newSlot s seed
-        → Makes c seed (record { answer = a; player = record { slot = r; played = 0 } })
-    makes-player s r e new =
+    pub makes-player : (s : Settings) → s .«grid_x» < 2 ^ 16 → s ≡ firstSettings a c → (page : Page) (deck : Deck) → page ≡ newPage s → deck ≡ newDeck seed
+        → Makes c seed (record { answer = a; player = record { page = page; deck = deck } })
+    makes-player s grid e page deck f g =
         record {
           answer-is = asked;
-          state-is = rw (new, e, asked) first-is;
-          valid = new-valid s seed r (subst StoredIn (sym e) first-in) (new);
+          state-is = rw (f, g, e, asked) first-is;
+          valid = new-valid s seed page deck (subst SettingsIn (sym e) (first-in (rw e at grid))) f g;
         }

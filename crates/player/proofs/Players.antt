@@ -1,7 +1,7 @@
 -- What holds of a new player and of one that is edited. Assumes nothing.
 use Prim.Native.Nat.{ℕ, _<_}
-use mathlib.Core.Path.{_≡_, refl, sym, subst, _∙_}
-use mathlib.Core.Bool.{Bool, true, false, false≢true}
+use mathlib.Core.Path.{_≡_, refl, _∙_}
+use mathlib.Core.Bool.{Bool, true, false}
 use mathlib.Core.List.{List}
 use native.Mathlib.Omega.{arith}
 use borrow.Author.Tests.{eqb-true, eqb-false}
@@ -11,22 +11,35 @@ use lib.Seq.{getD-set-same, getD-set-other}
 use lib.Ieee.{Float, nan}
 use lib.Ieee.Scale.{finite}
 use Rattle.points.specs.Modulation.{FiniteBuses}
+use Rattle.shape.specs.declared.Shape.{Shape}
+use Rattle.path.specs.declared.Path.{Path}
 use Rattle.settings.specs.declared.record.Settings.{Settings}
-use Rattle.slot.specs.declared.Lfo.{Lfo}
-use Rattle.slot.specs.declared.Slot.{Slot}
-use Rattle.slot.specs.Slot.{newSlot, StoredIn, BusesIn, LfoIn}
-use Rattle.slot.proofs.Slots.{new-lfo-in, new-voice-in, new-cache-in}
+use Rattle.reach.specs.Bounds.{SettingsIn}
+use Rattle.slot.specs.declared.page.Page.{Page}
+use Rattle.slot.specs.Slot.{ShapeIn, PathIn, BusesIn}
+use Rattle.slot.specs.Page.{pageOf, newPage}
+use Rattle.slot.proofs.Curves.{void-for}
+use Rattle.slot.proofs.Slots.{new-lfo-in, new-voice-in}
+use Rattle.player.specs.declared.Deck.{Deck}
 use Rattle.player.specs.declared.Player.{Player}
-use Rattle.player.specs.Player.{editedPlayer, Valid}
+use Rattle.player.specs.Player.{newDeck, editedPlayer, Valid}
 
-pub new-valid : (s : Settings) (seed : ℕ) (slot : Slot) → StoredIn s → slot ≡ newSlot s seed → Valid (record { slot = slot; played = 0 })
-new-valid s seed slot i e =
-    subst (λ (z : Slot). Valid (record { slot = z; played = 0 })) (sym e)
-    (record { within = lit≤ tt; lfo-in = new-lfo-in s i; anchor-in = new-voice-in seed; cache-in = new-cache-in s seed })
+pub new-valid : (s : Settings) (seed : ℕ) (page : Page) (deck : Deck) → SettingsIn s → page ≡ newPage s → deck ≡ newDeck seed → Valid (record { page = page; deck = deck })
+new-valid s seed page deck i e f =
+    rw (e, f)
+    (record { within = lit≤ tt; lfo-in = new-lfo-in s i; anchor-in = new-voice-in seed; lists-in = refl; kept-for = void-for _ _ })
 
--- its voice stays
-pub edited-valid : (p : Player) (lfo : Lfo) → Valid p → LfoIn (p .played) lfo → Valid (editedPlayer p lfo)
-edited-valid p lfo v i = record { within = v .within; lfo-in = i; anchor-in = v .anchor-in; cache-in = λ kind fresh made. absurd (false≢true fresh) }
+-- its voice and its clock stay
+pub edited-valid : (p : Player) (s : Settings) (shape : Shape) (path : Path) (buses : List Float) → Valid p
+    → SettingsIn s → ShapeIn shape → PathIn path → BusesIn buses → Valid (editedPlayer p (pageOf s shape path buses))
+edited-valid p s shape path buses v i j k l =
+    record {
+      within = v .within;
+      lfo-in = record { settings-in = i; shape-in = j; path-in = k; buses-in = l; clock-in = v .lfo-in .clock-in };
+      anchor-in = v .anchor-in;
+      lists-in = refl;
+      kept-for = void-for _ _;
+    }
 
 -- one bus at another finite value
 pub bus-in : (buses : List Float) (k : ℕ) (value : Float) → BusesIn buses → k < 16 → T (finite value) → BusesIn (set buses k value)

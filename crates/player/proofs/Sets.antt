@@ -1,5 +1,5 @@
 -- What each setting call gives, of the equations of what it calls. Assumes nothing.
-use Prim.Native.Nat.{ℕ, suc, _<_, min}
+use Prim.Native.Nat.{ℕ, suc, _^_, _<_, min}
 use mathlib.Core.Path.{_≡_, refl, sym, _∙_}
 use mathlib.Core.Bool.{Bool, true, false, cond}
 use mathlib.Core.List.{List, _∷_, _++_}
@@ -23,9 +23,11 @@ use Rattle.settings.specs.declared.record.SettingsCode.the-variants as Settings
 use Rattle.settings.specs.Codes.{settingsAt}
 use Rattle.settings.specs.Records.{clampedSettings}
 use Rattle.slot.specs.Moved.{LoopbackIn}
-use Rattle.slot.specs.Slot.{StoredIn, ShapeIn, PathIn, BusesIn}
+use Rattle.slot.specs.Slot.{ShapeIn, PathIn}
+use Rattle.slot.specs.declared.page.Page.{Page}
+use Rattle.slot.specs.Page.{pageOf}
 use Rattle.slot.proofs.Curves.{accepted-path}
-use Rattle.slot.proofs.Slots.{clamped-in}
+use Rattle.slot.proofs.Slots.{stored-in}
 use Rattle.codes.specs.declared.ShapeCodes.{ShapeCodes}
 use Rattle.codes.specs.declared.PathCodes.{PathCodes}
 use Rattle.curves.specs.Given.{isYes, givenPoints, loopbackOf, givenShape, givenPathPoints, givenPath}
@@ -39,18 +41,11 @@ use Rattle.player.specs.Promises.{Changes}
 use Rattle.player.proofs.Answers.{refused, changed}
 use Rattle.player.proofs.Players.{edited-valid, bus-in}
 
--- a player with other settings, curves and buses
-module _ (p : Player) where
-  abbrev edited : Settings → Shape → Path → List Float → Player
-  edited s drawn way values = editedPlayer p (record { settings = s; shape = drawn; path = way; buses = values; clock = p .slot .lfo .clock })
-
-  edited-in : Valid p → (s : Settings) (drawn : Shape) (way : Path) (values : List Float) → StoredIn s → ShapeIn drawn → PathIn way → BusesIn values
-      → Valid (edited s drawn way values)
-  edited-in v s drawn way values i j k l =
-      edited-valid p (record { settings = s; shape = drawn; path = way; buses = values; clock = p .slot .lfo .clock }) v
-      (record { settings-in = i; shape-in = j; path-in = k; buses-in = l; clock-in = v .lfo-in .clock-in })
-
 -- ---- settings
+
+is-grid : (s stored : Settings) → stored ≡ clampedSettings s → stored .«grid_x» ≡ s .«grid_x»
+unfolding clampedSettings
+is-grid s stored e = rw e
 
 module _ (p : Player) (v : Valid p) (c : SettingsCodes) (a : ℕ) (asked : a ≡ firstNo (settingsQuestions c)) where
   settings-put : a ≡ answer (stateOf p) (settings c)
@@ -64,16 +59,15 @@ module _ (p : Player) (v : Valid p) (c : SettingsCodes) (a : ℕ) (asked : a ≡
   pub settings-unknown : a ≡ 0 → settingsAt c ≡ SettingsCode.Unknown → Changes p (settings c) (record { answer = a; player = p })
   settings-unknown e u = changed p (settings c) a settings-put e p (unfold accepted in rw u) v
 
-  abbrev bySettings : Settings → Player
-  bySettings s = let l = p .slot .lfo in edited p s (l .shape) (l .path) (l .buses)
-
-  pub settings-set : a ≡ 0 → (s stored : Settings) → settingsAt c ≡ SettingsCode.Known s → stored ≡ clampedSettings s
-      → (r : Player) → r ≡ bySettings stored → Changes p (settings c) (record { answer = a; player = r })
-  settings-set e s stored known is r made =
+  pub settings-set : a ≡ 0 → (s stored : Settings) → settingsAt c ≡ SettingsCode.Known s → stored ≡ clampedSettings s → stored .«grid_x» < 2 ^ 16
+      → (page : Page) → page ≡ pageOf stored (p .page .shape) (p .page .path) (p .page .buses) → (r : Player) → r ≡ editedPlayer p page
+      → Changes p (settings c) (record { answer = a; player = r })
+  settings-set e s stored known is grid page paged r made =
       let i = v .lfo-in in
-      rw (made, is)
-      (changed p (settings c) a settings-put e (bySettings (clampedSettings s)) (unfold accepted withSettings in rw known)
-      (edited-in p v _ _ _ _ (clamped-in s (settings-in c (sym asked ∙ e) s known)) (i .shape-in) (i .path-in) (i .buses-in)))
+      let same : stored .«grid_x» ≡ s .«grid_x» = is-grid s stored is in
+      rw (made, paged, is)
+      (changed p (settings c) a settings-put e _ (unfold accepted withSettings in rw known)
+      (edited-valid p _ _ _ _ v (stored-in s (settings-in c (sym asked ∙ e) s known (rw same at grid))) (i .shape-in) (i .path-in) (i .buses-in)))
 
 -- ---- a shape
 
@@ -108,16 +102,13 @@ module _ (p : Player) (v : Valid p) (c : ShapeCodes) (a : ℕ)
         moves = accepted-x (givenPoints (c .points) (min (c .count) 64)) (min (c .count) 64) (shape-accepted true c (sym asked ∙ e) .points-finite);
       }
 
-  abbrev byShape : Shape → Player
-  byShape s = let l = p .slot .lfo in edited p (l .settings) s (l .path) (l .buses)
-
-  pub shape-set : a ≡ 0 → (s : Shape) → s ≡ given → (r : Player) → r ≡ byShape s
-      → Changes p (shape c) (record { answer = a; player = r })
-  shape-set e s is r made =
+  pub shape-set : a ≡ 0 → (s : Shape) → s ≡ given → (page : Page) → page ≡ pageOf (p .page .settings) s (p .page .path) (p .page .buses)
+      → (r : Player) → r ≡ editedPlayer p page → Changes p (shape c) (record { answer = a; player = r })
+  shape-set e s is page paged r made =
       let i = v .lfo-in in
-      rw (made, is)
-      (changed p _ a shape-put e (byShape given) (unfold accepted withShape in refl)
-      (edited-in p v _ _ _ _ (i .settings-in) (given-in e) (i .path-in) (i .buses-in)))
+      rw (made, paged, is)
+      (changed p _ a shape-put e _ (unfold accepted withShape in refl)
+      (edited-valid p _ _ _ _ v (i .settings-in) (given-in e) (i .path-in) (i .buses-in)))
 
 -- ---- a path
 
@@ -136,21 +127,19 @@ module _ (p : Player) (v : Valid p) (c : PathCodes) (a : ℕ) (asked : a ≡ fir
   unfolding givenPath
   travelled-in = accepted-path (givenPathPoints (c .points) (min (c .count) 64)) (c .count) (isYes (c .closed))
 
-  abbrev byPath : Path → Player
-  byPath s = let l = p .slot .lfo in edited p (l .settings) (l .shape) s (l .buses)
-
-  pub path-set : a ≡ 0 → (s : Path) → s ≡ travelled → (r : Player) → r ≡ byPath s → Changes p (path c) (record { answer = a; player = r })
-  path-set e s is r made =
+  pub path-set : a ≡ 0 → (s : Path) → s ≡ travelled → (page : Page) → page ≡ pageOf (p .page .settings) (p .page .shape) s (p .page .buses)
+      → (r : Player) → r ≡ editedPlayer p page → Changes p (path c) (record { answer = a; player = r })
+  path-set e s is page paged r made =
       let i = v .lfo-in in
-      rw (made, is)
-      (changed p _ a path-put e (byPath travelled) (unfold accepted withPath in refl)
-      (edited-in p v _ _ _ _ (i .settings-in) (i .shape-in) travelled-in (i .buses-in)))
+      rw (made, paged, is)
+      (changed p _ a path-put e _ (unfold accepted withPath in refl)
+      (edited-valid p _ _ _ _ v (i .settings-in) (i .shape-in) travelled-in (i .buses-in)))
 
 -- ---- a bus
 
 module _ (p : Player) (v : Valid p) (k : ℕ) (value : Float) (a : ℕ) (asked : a ≡ firstNo (busQuestions k value)) where
   abbrev buses : List Float
-  buses = p .slot .lfo .buses
+  buses = p .page .buses
 
   bus-put : a ≡ answer (stateOf p) (bus k value)
   unfolding answer questions
@@ -172,13 +161,10 @@ module _ (p : Player) (v : Valid p) (k : ℕ) (value : Float) (a : ℕ) (asked :
     bus-split : set buses k value ≡ take k buses ++ value ∷ drop (suc k) buses
     bus-split = set-split buses k value (omega (arith, bus-few, v .lfo-in .buses-in .long))
 
-    abbrev byBuses : List Float → Player
-    byBuses s = let l = p .slot .lfo in edited p (l .settings) (l .shape) (l .path) s
-
-    pub bus-set : eq (getD buses k nan) value ≡ false → (r : Player) → r ≡ byBuses (set buses k value)
-        → Changes p (bus k value) (record { answer = a; player = r })
-    bus-set other r made =
+    pub bus-set : eq (getD buses k nan) value ≡ false → (page : Page) → page ≡ pageOf (p .page .settings) (p .page .shape) (p .page .path) (set buses k value)
+        → (r : Player) → r ≡ editedPlayer p page → Changes p (bus k value) (record { answer = a; player = r })
+    bus-set other page paged r made =
         let i = v .lfo-in in
-        rw made
-        (changed p _ a bus-put e (byBuses (set buses k value)) (unfold accepted withBus movedBuses in rw (other, bus-split))
-        (edited-in p v _ _ _ _ (i .settings-in) (i .shape-in) (i .path-in) (bus-in buses k value (i .buses-in) bus-few (bus-facts .0))))
+        rw (made, paged)
+        (changed p _ a bus-put e _ (unfold accepted withBus movedBuses in rw (other, bus-split))
+        (edited-valid p _ _ _ _ v (i .settings-in) (i .shape-in) (i .path-in) (bus-in buses k value (i .buses-in) bus-few (bus-facts .0))))

@@ -6,25 +6,21 @@ use codes::SettingsCodes;
 use codes::ShapeCodes;
 use settings::Settings;
 use settings::SettingsCode;
-use slot::Lfo;
+use slot::Page;
+use voice::Kept;
 ghost use mathlib.Core.Path.{_≡_};
 ghost use Rattle.calls.specs.Calls as call;
 ghost use Rattle.player.specs.Player.{editedPlayer, Valid};
 ghost use Rattle.player.specs.Promises.{Changes};
 
-// The player with another LFO. The points as moved and the segments kept are void.
-fn edited(p: Player, lfo: Lfo) -> Player
-    ensures { λ r. ⌜ r ≡ editedPlayer p lfo ⌝ }
+// The player with another page. The segments kept are void.
+fn edited(p: Player, page: Page) -> Player
+    ensures { λ r. ⌜ r ≡ editedPlayer p page ⌝ }
 {
-    let mut slot = p.slot;
-    let mut cache = slot.cache;
-    cache.fresh = false;
-    slot.lfo = lfo;
-    slot.cache = cache;
-    Player {
-        slot,
-        played: p.played,
-    }
+    let mut deck = p.deck;
+    let kept = Kept::void();
+    deck.kept = kept;
+    Player { page, deck }
 }
 
 // Sets the settings, each number in its range.
@@ -40,10 +36,11 @@ pub fn set_settings(p: Player, c: SettingsCodes) -> Changed
         return Changed { answer, player: p };
     };
     let settings = s.clamped();
-    let slot = p.slot;
-    let mut lfo = slot.lfo;
-    lfo.settings = settings;
-    let player = edited(p, lfo);
+    let g = p.page;
+    let shape = g.shape;
+    let path = g.path;
+    let buses = g.buses;
+    let player = edited(p, Page::of(settings, shape, path, buses));
     Changed { answer, player }
 }
 
@@ -57,10 +54,11 @@ pub fn set_shape(p: Player, c: ShapeCodes) -> Changed
         return Changed { answer, player: p };
     }
     let shape = curves::shape_of(c);
-    let slot = p.slot;
-    let mut lfo = slot.lfo;
-    lfo.shape = shape;
-    let player = edited(p, lfo);
+    let g = p.page;
+    let settings = g.settings;
+    let path = g.path;
+    let buses = g.buses;
+    let player = edited(p, Page::of(settings, shape, path, buses));
     Changed { answer, player }
 }
 
@@ -74,10 +72,11 @@ pub fn set_path(p: Player, c: PathCodes) -> Changed
         return Changed { answer, player: p };
     }
     let path = curves::path_of(c);
-    let slot = p.slot;
-    let mut lfo = slot.lfo;
-    lfo.path = path;
-    let player = edited(p, lfo);
+    let g = p.page;
+    let settings = g.settings;
+    let shape = g.shape;
+    let buses = g.buses;
+    let player = edited(p, Page::of(settings, shape, path, buses));
     Changed { answer, player }
 }
 
@@ -91,14 +90,15 @@ pub fn set_bus(p: Player, bus: u64, value: f32) -> Changed
         return Changed { answer, player: p };
     }
     let k = bus as usize;
-    let slot = p.slot;
-    let mut lfo = slot.lfo;
-    let mut buses = lfo.buses;
+    let g = p.page;
+    let settings = g.settings;
+    let shape = g.shape;
+    let path = g.path;
+    let mut buses = g.buses;
     if buses[k] == value {
         return Changed { answer, player: p };
     }
     buses[k] = value;
-    lfo.buses = buses;
-    let player = edited(p, lfo);
+    let player = edited(p, Page::of(settings, shape, path, buses));
     Changed { answer, player }
 }

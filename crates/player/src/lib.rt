@@ -1,4 +1,5 @@
-// A player, and every call of document 01 on it. A player goes in by value and comes back; a call that is refused gives back the one that it was handed.
+// A player, and every call of document 01 on it. A player goes in by value. A call that sets something gives back a player; a block gives back the player's
+// deck, all that a block changes, and the caller puts it in its place: `p.deck = r.deck`. A call that is refused gives back what it was handed.
 //
 // `Valid` of specs/Player.antt is what every player has: `make` ensures it, and each other call asks it and keeps it.
 mod edits;
@@ -6,6 +7,7 @@ mod making;
 mod phases;
 mod playing;
 
+use clock::Clock;
 pub use edits::set_bus;
 pub use edits::set_path;
 pub use edits::set_settings;
@@ -13,12 +15,22 @@ pub use edits::set_shape;
 pub use making::make;
 pub use phases::phase;
 pub use playing::play;
-use slot::Slot;
+use slot::Page;
+use voice::Kept;
+use voice::Voice;
 
-// A player: its slot, and the frames played since it was made.
-pub struct Player {
-    pub slot: Slot,
+// What a block changes: the free clock, the voice, the segments that its last search found, and the frames played since the player was made.
+pub struct Deck {
+    pub clock: Clock,
+    pub voice: Voice,
+    pub kept: Kept,
     pub played: u64,
+}
+
+// A player: what a block reads, and what it changes.
+pub struct Player {
+    pub page: Page,
+    pub deck: Deck,
 }
 
 // What making a player gives. Where the answer is not 0 the player has the default settings and is not to be used.
@@ -33,11 +45,11 @@ pub struct Changed {
     pub player: Player,
 }
 
-// What playing a block gives, and whether a One-shot has reached its end in it.
+// What playing a block gives: the player's deck after it, and whether a One-shot has reached its end in it.
 pub struct Played {
     pub answer: u8,
     pub finished: bool,
-    pub player: Player,
+    pub deck: Deck,
 }
 
 // The number of the question that refused a read of the phase, or the phase.

@@ -19,11 +19,9 @@ pub fn phase(p: Player, t: TransportCodes) -> PhaseResult
     let TransportCode::Known(transport) = Transport::from_codes(t) else {
         return PhaseResult::Refused(answer);
     };
-    let slot = p.slot;
-    let lfo = slot.lfo;
-    let settings = lfo.settings;
-    let clock = lfo.clock;
-    let voice = slot.voice;
+    let settings = p.page.settings;
+    let clock = p.deck.clock;
+    let voice = p.deck.voice;
     let anchor = voice.anchor;
     PhaseResult::At(clock::phase(settings, clock, anchor, transport))
 }

@@ -1,18 +1,19 @@
 -- The restart rule of players holds: what two sessions left in their buffers is what the rule of lists of calls is about. Assumes nothing.
 use Prim.Native.Nat.{_<_}
 use mathlib.Core.Path.{_≡_, refl, sym, ap, _∙_, subst}
-use mathlib.Core.List.{List}
+use mathlib.Core.List.{List, _∷_}
 use lib.ListN.{length}
 use lib.Ieee.{Float}
 use borrow.Author.Tests.{eq-eqb}
 use Rattle.calls.specs.State.{State}
 use Rattle.calls.specs.Calls.{Call, block, answer, step, after}
-use Rattle.player.specs.Player.{stateOf}
-use Rattle.restart.specs.Heard.{Side}
+use Rattle.player.specs.Player.{stateOf, withDeck}
+use Rattle.codes.specs.declared.TransportCodes.{TransportCodes}
+use Rattle.restart.specs.Heard.{Side, window}
 use Rattle.restart.specs.Rule.{RestartFrom, AtRestart, Hypotheses, JustMade, newPlayer}
 use Rattle.restart.specs.Rule as Rule
 use Rattle.restart.proofs.RestartRule.{restart-rule}
-use Rattle.players_rule.specs.Rule.{Session, writtenFrom, throughout, atRestart, PlayersRule}
+use Rattle.players_rule.specs.Rule.{Session, frameAt, writtenFrom, throughout, atRestart, PlayersRule}
 use Rattle.reached.proofs.Traces.{history-state}
 use Rattle.players_rule.proofs.Calls.{read-is, written-heard, transports-window}
 
@@ -28,7 +29,7 @@ module _ (s : Session) where
   unfolding player
   at-is = history-state (s .history)
 
-  past-is : stateOf (s .block .player) ≡ step (after (newPlayer player) (s .history .calls)) call
+  past-is : stateOf (withDeck (s .at) (s .block .deck)) ≡ step (after (newPlayer player) (s .history .calls)) call
   past-is = s .plays .state-is ∙ ap (λ (z : State). step z call) at-is
 
   pub restart : RestartFrom (newPlayer player)
@@ -53,9 +54,15 @@ module _ (s : Session) where
       let later = written-heard side (s .from-block) in
       rw (own, later, at-is, past-is) refl
 
+  -- of the player that the block gets, with these transports after the block's
+  abbrev with : State → List TransportCodes → AtRestart
+  with z l = record { state = z; transports = s .transport ∷ l; word = Rule.wordAfter z (s .transport) (s .frames) (frameAt s) }
+
   at-restart : atRestart s ≡ Rule.atRestart restart
   unfolding restart throughout Rule.throughout Rule.wordAt
-  at-restart = let later = transports-window (s .from-block) in rw (later, at-is, past-is) refl
+  at-restart =
+      let later = transports-window (s .from-block) ∙ ap (λ (z : State). window z (s .rest)) past-is in
+      ap (λ (l : List TransportCodes). with (stateOf (s .at)) l) later ∙ ap (λ (z : State). with z (window (step (after (newPlayer player) (s .history .calls)) call) (s .rest))) at-is
 
 pub players-rule : PlayersRule
 players-rule s₁ s₂ fields h side n u v =

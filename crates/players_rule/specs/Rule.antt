@@ -9,7 +9,7 @@ use Rattle.codes.specs.declared.RestartCodes.{RestartCodes}
 use Rattle.calls.specs.Calls.{Call}
 use Rattle.player.specs.declared.Player.{Player}
 use Rattle.player.specs.declared.Played.{Played}
-use Rattle.player.specs.Player.{stateOf, Valid}
+use Rattle.player.specs.Player.{stateOf, withDeck, Valid}
 use Rattle.player.specs.Promises.{Plays}
 use Rattle.restart.specs.Heard.{Side}
 use Rattle.restart.specs.Rule.{wordAfter, AtRestart, TransportFields, Hypotheses}
@@ -37,7 +37,7 @@ pub record Session : Type 0 where
   -- the calls after it
   pub rest : List Call
   pub last : Player
-  pub from-block : Trace (block .player) rest last
+  pub from-block : Trace (withDeck at (block .deck)) rest last
 
 module _ (s : Session) where
   -- "at its frame or, where that lies beyond the end, at the end"

@@ -65,7 +65,7 @@ module _ (c : ShapeCodes) (a : ShapeAccepted true c) where
 
 -- ---- a player
 
-history-on-grid : (p : Player) → History p → ShapeOnGrid (p .slot .lfo .shape)
+history-on-grid : (p : Player) → History p → ShapeOnGrid (p .page .shape)
 history-on-grid =
     history-stores (λ (s : Shape) (w : Path). ShapeOnGrid s) default-on-grid (λ s w c a g. given-on-grid c a)
     (λ s w c a g. g)
@@ -81,4 +81,4 @@ pub strengths-near : StrengthsNear
 unfolding shapeLists curvesOf
 strengths-near p h k l =
     let d = history-on-grid p h k l in
-    subst (λ (x : Float). Bends (getD (p .slot .lfo .shape .points) k noPoint .curve) x) (sym (getD-padded _ 64 f32-0 (p .slot .lfo .shape .len) k nan l)) (near-at _ (d .0) (d .1))
+    subst (λ (x : Float). Bends (getD (p .page .shape .points) k noPoint .curve) x) (sym (getD-padded _ 64 f32-0 (p .page .shape .len) k nan l)) (near-at _ (d .0) (d .1))

@@ -30,7 +30,8 @@ use Rattle.calls.specs.Blocks.{pendingOf, playedState}
 use Rattle.calls.specs.Calls.{Call, settings, shape, path, bus, phase, block, accepts, bySettings, byTransport, makes, noPlayer, made, accepted, step, after}
 use Rattle.player.specs.declared.Player.{Player}
 use Rattle.player.specs.Player.{stateOf}
-use Rattle.reached.specs.Players.{Reached, carries, restartIn, NeverRestarted}
+use Rattle.reached.specs.Traces.{History}
+use Rattle.reached.specs.Players.{carries, restartIn, NeverRestarted}
 use Rattle.reached.specs.Frames.{FullFade}
 use Rattle.reached.proofs.Traces.{history-state}
 use Rattle.reached.proofs.Frames.{voice-first}
@@ -126,14 +127,13 @@ full-after p (c ∷ cs) e f =
 abbrev FullState : State → Type 0
 FullState p = Full (p .voice)
 
-full-reached : {p : Player} (h : Reached p) → NeverRestarted h → FullState (stateOf p)
+full-reached : {p : Player} (h : History p) → NeverRestarted h → FullState (stateOf p)
 full-reached h u =
-    let past = h .history in
-    subst FullState (sym (history-state past)) (full-after (made (past .codes) (past .seed)) (past .calls) u (full-made (past .codes) (past .seed)))
+    subst FullState (sym (history-state h)) (full-after (made (h .codes) (h .seed)) (h .calls) u (full-made (h .codes) (h .seed)))
 
 -- ---- the law
 
 pub full-fade : FullFade
 full-fade p t frames at h u k l =
-    let f = full-begun _ _ _ frames k (p .slot .voice) (full-reached h u) in
+    let f = full-begun _ _ _ frames k (p .deck .voice) (full-reached h u) in
     rw (voice-first (stateOf p) t frames at k l) (full-weight _ _ _ _ (f .no-delay) (f .no-fade))

@@ -36,16 +36,16 @@ use Rattle.bank.specs.declared.parts.Pending.{Pending}
 use Rattle.bank.specs.declared.parts.Pending.the-variants.{None, At}
 use Rattle.bank.specs.Render.{lastCount}
 use Rattle.bank.specs.Parts.{begun, restarted, partsCount}
-use Rattle.slot.specs.declared.Lfo.{Lfo}
 use Rattle.slot.specs.Moved.{loopOf, movedCurve}
-use Rattle.slot.specs.Slot.{slotCurve}
+use Rattle.slot.specs.Slot.{Lfo, slotCurve}
 use Rattle.slot.proofs.Curves.{loop-in}
 use Rattle.calls.specs.State.{State}
 use Rattle.calls.specs.Blocks.{prepared, curve, endCount, finished}
 use Rattle.player.specs.declared.Player.{Player}
 use Rattle.player.specs.Player.{stateOf}
 use Rattle.player.specs.Promises.{finishedBy}
-use Rattle.reached.specs.Players.{Reached, AcceptedBlock}
+use Rattle.reached.specs.Traces.{History}
+use Rattle.reached.specs.Players.{AcceptedBlock}
 use Rattle.reached.specs.Frames.{restartFrame, nthFrame}
 use Rattle.reached.specs.Finished.{BlockSays, LastFrame, NoFrames, FinishedMeans}
 use Rattle.reached.proofs.Players.{reached-valid}
@@ -174,7 +174,7 @@ zero-counted : Counted f64-0
 unfolding fits isNan ofBits
 zero-counted = (tt, tt)
 
-counted : (p : Player) (t : Transport) (frames : ℕ) (at : Pending) → Reached p → AcceptedBlock p t frames at → Counted (endCount (stateOf p) t frames at)
+counted : (p : Player) (t : Transport) (frames : ℕ) (at : Pending) → History p → AcceptedBlock p t frames at → Counted (endCount (stateOf p) t frames at)
 counted p t zero at h a = subst Counted (sym (empty-count (stateOf p) t at)) zero-counted
 counted p t (suc k) at h a =
     subst Counted (sym (last-frame (stateOf p) t k at))
@@ -189,15 +189,15 @@ silent kind OneShot d l c e = rw e
 pub finished-means : FinishedMeans
 unfolding finished
 finished-means p t frames at h a k =
-    let s = p .slot .lfo .settings in
+    let s = p .page .settings in
     let d = s .direction in
     let from = curve (stateOf p) t frames at .from in
     let c = endCount (stateOf p) t frames at in
-    let r = reads (s .kind) (p .slot .lfo) k in
+    let r = reads (s .kind) (stateOf p .lfo) k in
     let n = counted p t frames at h a in
     record {
       rests = λ e. finished-rests (s .kind) (s .mode) d from c r (yes-so e);
       moves = λ one free e. unfinished-moves (s .kind) d from c r free (n .0) (n .1) (subst (λ (m : Mode). finishedOf (s .kind) m d from c ≡ false) one e);
       never = λ force. silent (s .kind) (s .mode) d from c force;
-      loops-on = λ one force e. in-force-moves (s .kind) d from c (loop-in (p .slot .lfo) (reached-valid h .lfo-in) (s .kind)) force e;
+      loops-on = λ one force e. in-force-moves (s .kind) d from c (loop-in (stateOf p .lfo) (reached-valid h .lfo-in) (s .kind)) force e;
     }

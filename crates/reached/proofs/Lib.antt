@@ -1,5 +1,4 @@
 pub mod Traces
-pub mod Grid
 pub mod Players
 pub mod Frames
 pub mod Positions

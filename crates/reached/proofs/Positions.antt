@@ -28,24 +28,25 @@ use Rattle.calls.specs.Calls.{questions, answer}
 use Rattle.player.specs.declared.Player.{Player}
 use Rattle.player.specs.Player.{stateOf}
 use Rattle.player.specs.Readings.{phaseAnswer}
-use Rattle.reached.specs.Players.{Reached, AcceptedBlock}
+use Rattle.reached.specs.Traces.{History}
+use Rattle.reached.specs.Players.{AcceptedBlock}
 use Rattle.reached.specs.Frames.{restartFrame, nthFrame, PositionsIn, PhaseIn}
-use Rattle.reached.proofs.Players.{reached-valid, reached-in, known-transport, block-facts, transport-within}
+use Rattle.reached.proofs.Players.{reached-valid, known-transport, block-facts, transport-within}
 use Rattle.reached.proofs.Frames.{first, later, voice-by}
 
 -- ---- counts
 
-module _ (Law : Mode → Float → Type 0) (each : EachFrame Law) (p : Player) (t : Transport) (frames : ℕ) (h : Reached p) where
+module _ (Law : Mode → Float → Type 0) (each : EachFrame Law) (p : Player) (t : Transport) (frames : ℕ) (h : History p) where
   -- of the count of sample k of the block, played by the voice v
   abbrev Counted : Pending → ℕ → Voice → Type 0
-  Counted at k v = let m = p .slot .lfo .settings .mode in Law m (countAt m (prepared (stateOf p) t frames at .block) (v .anchor) k)
+  Counted at k v = let m = p .page .settings .mode in Law m (countAt m (prepared (stateOf p) t frames at .block) (v .anchor) k)
 
   before : (at : Pending) (a : AcceptedBlock p t frames at) (k : ℕ) → k < frames → Counted at k (first (stateOf p) t frames at k)
   before at a k l =
       let valid = reached-valid h in
       let B = block-facts a in
       rw zero-add at
-      (first-counted Law each (p .slot .lfo) t (p .played) frames (valid .lfo-in) (reached-in h) (transport-within a) (B .short) (B .within-life) (p .slot .voice) (valid .anchor-in) k (omega arith))
+      (first-counted Law each (stateOf p .lfo) t (p .deck .played) frames (valid .lfo-in) (transport-within a) (B .short) (B .within-life) (p .deck .voice) (valid .anchor-in) k (omega arith))
 
   from-on : (at : Pending) (a : AcceptedBlock p t frames at) (k : ℕ) → k < frames → restartFrame at frames ≤ k
       → Counted at k (later (stateOf p) t frames at (k - restartFrame at frames))
@@ -54,13 +55,13 @@ module _ (Law : Mode → Float → Type 0) (each : EachFrame Law) (p : Player) (
       let valid = reached-valid h in
       let B = block-facts a in
       subst (λ (j : ℕ). Counted (At i) j (later (stateOf p) t frames (At i) (k - min i frames))) (whole (min i frames) k m)
-      (later-counted Law each (p .slot .lfo) t (p .played) frames (valid .lfo-in) (reached-in h) (transport-within a) (B .short) (B .within-life) (p .slot .voice) (valid .anchor-in) i (k - min i frames)
+      (later-counted Law each (stateOf p .lfo) t (p .deck .played) frames (valid .lfo-in) (transport-within a) (B .short) (B .within-life) (p .deck .voice) (valid .anchor-in) i (k - min i frames)
       (omega arith))
     where
       whole : (m n : ℕ) → m ≤ n → m + (n - m) ≡ n
       whole m n h = omega arith
 
-  pub frame-counted : (at : Pending) (a : AcceptedBlock p t frames at) (k : ℕ) → k < frames → Law (p .slot .lfo .settings .mode) (nthFrame (stateOf p) t frames at k .count)
+  pub frame-counted : (at : Pending) (a : AcceptedBlock p t frames at) (k : ℕ) → k < frames → Law (p .page .settings .mode) (nthFrame (stateOf p) t frames at k .count)
   unfolding frameOf
   frame-counted at a k l = voice-by (stateOf p) t frames at (Counted at k) k (λ m. before at a k l) (λ m. from-on at a k l m)
 
@@ -76,8 +77,8 @@ Narrowed m c = (d : Direction) (l : LoopPoint) → LoopIn l → InUnit (narrowed
 pub positions-in : PositionsIn
 unfolding placeOf
 positions-in p t frames at h a k l =
-    let s = p .slot .lfo .settings in
-    let loop = loop-in (p .slot .lfo) (reached-valid h .lfo-in) (s .kind) in
+    let s = p .page .settings in
+    let loop = loop-in (stateOf p .lfo) (reached-valid h .lfo-in) (s .kind) in
     let from = curve (stateOf p) t frames at .from in
     (frame-counted Placed frame-in p t frames h at a k l (s .direction) from loop, frame-counted Narrowed frame-narrowed p t frames h at a k l (s .direction) from loop)
 
@@ -89,9 +90,9 @@ phase-in p c h e =
     let a = phase-accepted c e in
     let k = known-transport c a in
     let valid = reached-valid h in
-    let s = p .slot in (
+    let s = stateOf p in (
       phaseAt (stateOf p) (k .0),
       rw (e, k .1) refl,
-      phase-read-in (s .lfo .settings) (s .lfo .clock) (s .voice .anchor) (k .0) (p .played)
-          (reached-in h) (transport-in c a (k .0) (k .1)) (valid .lfo-in .clock-in) (valid .anchor-in) (valid .within),
+      phase-read-in (s .lfo .settings) (s .lfo .clock) (s .voice .anchor) (k .0) (s .played)
+          (valid .lfo-in .settings-in) (transport-in c a (k .0) (k .1)) (valid .lfo-in .clock-in) (valid .anchor-in) (valid .within),
     )

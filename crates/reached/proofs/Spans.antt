@@ -95,7 +95,7 @@ stopped-spans p t frames at a e d =
 pub stopped-restarts : StoppedRestarts
 unfolding playedState partsVoice restarted begunVoice triggeredVoice restartedOutput
 stopped-restarts p t frames n a e =
-    let same = after-spans (p .slot .lfo .settings) _ _ (min n frames) _ _ in
+    let same = after-spans (p .page .settings) _ _ (min n frames) _ _ in
     let b = prepared (stateOf p) t frames (At n) .block in
     record {
       delay-is = λ d s. same .same-delay ∙ ap (λ (z : Span). samplesOf z b) s ∙ stopped-spans p t frames (At n) a e d;

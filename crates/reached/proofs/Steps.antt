@@ -33,7 +33,7 @@ use Rattle.calls.specs.Blocks.{prepared}
 use Rattle.player.specs.Player.{stateOf}
 use Rattle.reached.specs.Frames.{nthVoice, nthFrame}
 use Rattle.reached.specs.Limits.{attractor, StepsASample, StartSteps}
-use Rattle.reached.proofs.Players.{reached-in, transport-within}
+use Rattle.reached.proofs.Players.{reached-valid, transport-within}
 
 -- ---- from 1 to 16
 
@@ -106,9 +106,9 @@ source-is false kind mode b s c e = rw e
 pub steps-a-sample : StepsASample
 unfolding frameOf
 steps-a-sample p t frames at h a lorenz e =
-    let s = p .slot .lfo .settings in
+    let s = p .page .settings in
     let b = prepared (stateOf p) t frames at .block in
-    let S = prepared-in s (p .slot .lfo .clock) t frames (reached-in h) (transport-within a) .inc-in in
+    let S = prepared-in s (p .deck .clock) t frames (reached-valid h .lfo-in .settings-in) (transport-within a) .inc-in in
     let k : b .«chaos_steps» ≡ attractorOf lorenz (b .inc) .count = unfold preparedOf blockOf in ap (λ z. z .count) (chaos-is lorenz (s .kind) (paceAt s t .inc) e) in
     record {
       steps = b .«chaos_steps»;
@@ -132,4 +132,4 @@ size-le x S = go x (S .sized)
 
 pub start-steps : StartSteps
 unfolding preparedOf blockOf
-start-steps p h t frames at lorenz = few-steps lorenz (prepared (stateOf p) t frames at .block .phase) (size-le _ (phase-in (p .slot .lfo .settings) (reached-in h)))
+start-steps p h t frames at lorenz = few-steps lorenz (prepared (stateOf p) t frames at .block .phase) (size-le _ (phase-in (p .page .settings) (reached-valid h .lfo-in .settings-in)))

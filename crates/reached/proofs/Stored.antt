@@ -65,5 +65,5 @@ module _ (P : Shape → Path → Type 0) (first : P defaultShape defaultPath)
   accepted-stores p (phase t) e g = g
   accepted-stores p (block c n r x y) e g = played-stores p (transportAt c) n (pendingOf r) g
 
-  pub history-stores : (p : Player) → History p → P (p .slot .lfo .shape) (p .slot .lfo .path)
+  pub history-stores : (p : Player) → History p → P (p .page .shape) (p .page .path)
   history-stores p h = subst Stores (sym (history-state h)) (kept-after Stores accepted-stores (made (h .codes) (h .seed)) (h .calls) (made-stores (h .codes) (h .seed)))

@@ -20,5 +20,5 @@ pub record Bends (curve strength : Float) : Type 0 where
 -- of each point of the shape as it is stored, and of its strength in the lists that the frames read
 abbrev pub StrengthsNear : Type 0
 StrengthsNear =
-    (p : Player) → History p → (k : ℕ) → k < p .slot .lfo .shape .len
-    → Bends (getD (p .slot .lfo .shape .points) k noPoint .curve) (getD (shapeLists (p .slot .lfo .shape) (p .slot .lfo .buses) .es) k nan)
+    (p : Player) → History p → (k : ℕ) → k < p .page .shape .len
+    → Bends (getD (p .page .shape .points) k noPoint .curve) (getD (shapeLists (p .page .shape) (p .page .buses) .es) k nan)

@@ -22,7 +22,8 @@ use Rattle.player.specs.declared.Player.{Player}
 use Rattle.player.specs.declared.Played.{Played}
 use Rattle.player.specs.Player.{stateOf}
 use Rattle.player.specs.Promises.{Plays}
-use Rattle.reached.specs.Players.{Reached, AcceptedBlock}
+use Rattle.reached.specs.Traces.{History}
+use Rattle.reached.specs.Players.{AcceptedBlock}
 use Rattle.reached.specs.Frames.{nthFrame}
 
 -- what a block that is accepted says, by its contract
@@ -41,7 +42,7 @@ NoFrames = (p : State) (t : Transport) (at : Pending) → finished p t 0 at ≡ 
 
 module _ (p : Player) (t : Transport) (frames : ℕ) (at : Pending) where
   abbrev s : Settings
-  s = p .slot .lfo .settings
+  s = p .page .settings
 
   abbrev says : Bool
   says = finished (stateOf p) t frames at
@@ -69,5 +70,5 @@ module _ (p : Player) (t : Transport) (frames : ℕ) (at : Pending) where
 
 abbrev pub FinishedMeans : Type 0
 FinishedMeans =
-    (p : Player) (t : Transport) (frames : ℕ) (at : Pending) → Reached p → AcceptedBlock p t frames at
-    → (p .slot .lfo .settings .kind ≡ Drawn) ⊎ (p .slot .lfo .settings .kind ≡ Path) → SaysFinished p t frames at
+    (p : Player) (t : Transport) (frames : ℕ) (at : Pending) → History p → AcceptedBlock p t frames at
+    → (p .page .settings .kind ≡ Drawn) ⊎ (p .page .settings .kind ≡ Path) → SaysFinished p t frames at

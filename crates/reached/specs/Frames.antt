@@ -29,7 +29,8 @@ use Rattle.calls.specs.Calls.{phase, answer}
 use Rattle.player.specs.declared.Player.{Player}
 use Rattle.player.specs.Player.{stateOf}
 use Rattle.player.specs.Readings.{phaseAnswer}
-use Rattle.reached.specs.Players.{Reached, NeverRestarted, AcceptedBlock}
+use Rattle.reached.specs.Traces.{History}
+use Rattle.reached.specs.Players.{NeverRestarted, AcceptedBlock}
 
 -- ---- frame k
 
@@ -80,15 +81,15 @@ FramesWritten = (p : State) (t : Transport) (frames : ℕ) (at : Pending) (f : F
 -- "For every cycle count that a player reaches, position lies in 0 to 1, both included", and "Position becomes f32"
 abbrev pub PositionsIn : Type 0
 PositionsIn =
-    (p : Player) (t : Transport) (frames : ℕ) (at : Pending) → Reached p → AcceptedBlock p t frames at
+    (p : Player) (t : Transport) (frames : ℕ) (at : Pending) → History p → AcceptedBlock p t frames at
     → (k : ℕ) → k < frames → InUnit (nthPosition (stateOf p) t frames at k) × InUnit (nthPlace (stateOf p) t frames at k)
 
 -- the same of the phase, which every accepted read gives
 abbrev pub PhaseIn : Type 0
-PhaseIn = (p : Player) (t : TransportCodes) → Reached p → answer (stateOf p) (phase t) ≡ 0 → (x : Float) × (phaseAnswer (stateOf p) t ≡ success (x ∷ [])) × InUnit x
+PhaseIn = (p : Player) (t : TransportCodes) → History p → answer (stateOf p) (phase t) ≡ 0 → (x : Float) × (phaseAnswer (stateOf p) t ≡ success (x ∷ [])) × InUnit x
 
 -- "A voice never restarted has full fade": every frame before the first restart
 abbrev pub FullFade : Type 0
 FullFade =
-    (p : Player) (t : Transport) (frames : ℕ) (at : Pending) (h : Reached p) → NeverRestarted h
+    (p : Player) (t : Transport) (frames : ℕ) (at : Pending) (h : History p) → NeverRestarted h
     → (k : ℕ) → k < restartFrame at frames → nthWeight (stateOf p) t frames at k ≡ f32-1

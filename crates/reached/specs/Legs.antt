@@ -22,4 +22,4 @@ pub record Measured (path : Path) : Type 0 where
 
 -- of the path as it is stored
 abbrev pub LegsNearest : Type 0
-LegsNearest = (p : Player) → History p → Measured (p .slot .lfo .path)
+LegsNearest = (p : Player) → History p → Measured (p .page .path)

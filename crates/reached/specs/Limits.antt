@@ -20,7 +20,8 @@ use Rattle.bank.specs.declared.parts.Pending.the-variants.{At}
 use Rattle.calls.specs.Blocks.{prepared, playedState}
 use Rattle.player.specs.declared.Player.{Player}
 use Rattle.player.specs.Player.{stateOf}
-use Rattle.reached.specs.Players.{Reached, AcceptedBlock}
+use Rattle.reached.specs.Traces.{History}
+use Rattle.reached.specs.Players.{AcceptedBlock}
 use Rattle.reached.specs.Frames.{nthVoice, nthFrame}
 
 -- ---- spans
@@ -39,7 +40,7 @@ pub record Stores (s : Settings) (o : Output) : Type 0 where
 abbrev pub StoppedRestarts : Type 0
 StoppedRestarts =
     (p : Player) (t : Transport) (frames n : ℕ) → AcceptedBlock p t frames (At n) → T (eq (t .tempo) f64-0)
-    → Stores (p .slot .lfo .settings) (playedState (stateOf p) t frames (At n) .voice .output)
+    → Stores (p .page .settings) (playedState (stateOf p) t frames (At n) .voice .output)
 
 -- ---- steps
 
@@ -58,10 +59,10 @@ pub record Advances (p : Player) (t : Transport) (frames : ℕ) (at : Pending) (
 
 abbrev pub StepsASample : Type 0
 StepsASample =
-    (p : Player) (t : Transport) (frames : ℕ) (at : Pending) → Reached p → AcceptedBlock p t frames at
-    → (lorenz : Bool) → p .slot .lfo .settings .kind ≡ attractor lorenz → Advances p t frames at lorenz
+    (p : Player) (t : Transport) (frames : ℕ) (at : Pending) → History p → AcceptedBlock p t frames at
+    → (lorenz : Bool) → p .page .settings .kind ≡ attractor lorenz → Advances p t frames at lorenz
 
 -- "start phase up to 117 steps": of either attractor, from the phase of any block of the player
 abbrev pub StartSteps : Type 0
 StartSteps =
-    (p : Player) → Reached p → (t : Transport) (frames : ℕ) (at : Pending) (lorenz : Bool) → stepCount lorenz (prepared (stateOf p) t frames at .block .phase) ≤ 117
+    (p : Player) → History p → (t : Transport) (frames : ℕ) (at : Pending) (lorenz : Bool) → stepCount lorenz (prepared (stateOf p) t frames at .block .phase) ≤ 117

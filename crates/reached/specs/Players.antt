@@ -1,5 +1,5 @@
 -- Players that calls have reached, and the blocks that they accept. Assumes nothing.
-use Prim.Native.Nat.{ℕ, _^_, _<_}
+use Prim.Native.Nat.{ℕ}
 use mathlib.Core.Path.{_≡_}
 use mathlib.Core.Bool.{Bool, false, _&&_, _||_}
 use mathlib.Core.List.{List, [], _∷_}
@@ -13,31 +13,12 @@ use Rattle.curves.specs.Given.{isYes}
 use Rattle.codes.specs.declared.RestartCodes.{RestartCodes}
 use Rattle.calls.specs.State.{State}
 use Rattle.calls.specs.Blocks.{pendingOf}
-use Rattle.calls.specs.Calls.{Call, settings, shape, path, bus, phase, block, answer, accepts, made, step, byBlock}
+use Rattle.calls.specs.Calls.{Call, block, answer, accepts, made, step, byBlock}
 use Rattle.player.specs.declared.Player.{Player}
 use Rattle.player.specs.Player.{stateOf}
 use Rattle.reached.specs.Traces.{History}
 
 -- ---- players
-
--- a grid that is handed in is a u16 of the code
-abbrev pub GridIn : Call → Type 0
-GridIn (settings c) = c .«grid_x» < 2 ^ 16
-GridIn (shape c) = Unit
-GridIn (path c) = Unit
-GridIn (bus k value) = Unit
-GridIn (phase t) = Unit
-GridIn (block t frames restart x y) = Unit
-
-unfoldable pub GridsIn : List Call → Type 0
-GridsIn [] = Unit
-GridsIn (c ∷ cs) = GridIn c × GridsIn cs
-
--- A player that was made, with whatever codes and seed, and what calls since, accepted or refused, have left of it, by the contracts of crate `player`.
-pub record Reached (p : Player) : Type 0 where
-  pub history : History p
-  pub grid-in : history .codes .«grid_x» < 2 ^ 16
-  pub grids-in : GridsIn (history .calls)
 
 -- "A restart is one that an accepted block carries"
 abbrev pub carries : Call → Bool
@@ -49,8 +30,8 @@ restartIn p [] = false
 restartIn p (c ∷ cs) = accepts p c && carries c || restartIn (step p c) cs
 
 -- a "voice never restarted": none of the calls that reached the player restarted it
-abbrev pub NeverRestarted : {p : Player} → Reached p → Type 0
-NeverRestarted h = restartIn (made (h .history .codes) (h .history .seed)) (h .history .calls) ≡ false
+abbrev pub NeverRestarted : {p : Player} → History p → Type 0
+NeverRestarted h = restartIn (made (h .codes) (h .seed)) (h .calls) ≡ false
 
 -- ---- blocks
 

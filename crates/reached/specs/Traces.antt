@@ -13,7 +13,7 @@ use Rattle.player.specs.declared.Made.{Made}
 use Rattle.player.specs.declared.Changed.{Changed}
 use Rattle.player.specs.declared.Played.{Played}
 use Rattle.player.specs.declared.PhaseResult.{PhaseResult}
-use Rattle.player.specs.Player.{stateOf, Valid}
+use Rattle.player.specs.Player.{stateOf, withDeck, Valid}
 use Rattle.player.specs.Promises.{Makes, Changes, Plays}
 use Rattle.player.specs.Readings.{phaseResultAnswer, phaseAnswer}
 
@@ -24,7 +24,7 @@ pub data Trace : Player → List Call → Player → Type 0 where
   sets : (p : Player) (c : Call) (cs : List Call) (q : Player) (r : Changed) → isEdit c ≡ true → Changes p c r → Trace (r .player) cs q → Trace p (c ∷ cs) q
   reads : (p : Player) (t : TransportCodes) (cs : List Call) (q : Player) (r : PhaseResult) → phaseResultAnswer r ≡ phaseAnswer (stateOf p) t → Trace p cs q → Trace p (phase t ∷ cs) q
   plays : (p : Player) (t : TransportCodes) (n : ℕ) (restart : RestartCodes) (x y : List Float) (cs : List Call) (q : Player) (r : Played) (x′ y′ : List Float)
-      → Plays p t n restart x y r x′ y′ → Trace (r .player) cs q → Trace p (block t n restart x y ∷ cs) q
+      → Plays p t n restart x y r x′ y′ → Trace (withDeck p (r .deck)) cs q → Trace p (block t n restart x y ∷ cs) q
 
 -- what the contracts require of the player that each call gets, and so of the last
 unfoldable pub ValidAll : {p q : Player} {cs : List Call} → Trace p cs q → Type 0

@@ -17,8 +17,7 @@ use Rattle.voice.specs.Voice.{triggeredVoice}
 use Rattle.bank.specs.declared.parts.Pending.{Pending}
 use Rattle.bank.specs.declared.parts.Pending.the-variants.{At}
 use Rattle.bank.specs.Parts.{reaching, restarted}
-use Rattle.slot.specs.declared.Lfo.{Lfo}
-use Rattle.slot.specs.Slot.{slotCurve}
+use Rattle.slot.specs.Slot.{Lfo, slotCurve}
 use Rattle.codes.specs.declared.RestartCodes.{RestartCodes}
 use Rattle.calls.specs.State.{State}
 use Rattle.calls.specs.Blocks.{pendingOf, playedState, values}

@@ -16,7 +16,7 @@ use Rattle.fields.specs.Parser.{read}
 use Rattle.replies.specs.Replies.{listed, WritesAll}
 use Rattle.player.specs.declared.Player.{Player}
 use Rattle.player.specs.declared.Played.{Played}
-use Rattle.player.specs.Player.{stateOf}
+use Rattle.player.specs.Player.{stateOf, withDeck}
 use Rattle.player.specs.Promises.{Plays}
 use Rattle.runner.specs.Asked.{call, sevens}
 use Rattle.runner.specs.Numbers.{flagOf, blockNumbers, callNumbers, numbers, stateAfter}
@@ -62,9 +62,9 @@ module _ {p : Player} {t : TransportCodes} {frames : ℕ} {at : RestartCodes} {x
     {n f : ℕ} (n-is : n ≡ howMany (r .answer)) (f-is : f ≡ flagOf (r .finished)) where
   pub block-turned : (run o : List ℕ) (place next : ℕ) → {v : Writing} {o′ : List ℕ}
       → WritesAll o place (listed (take n (r .answer ∷ f ∷ [])) x′ y′) v o′
-      → Turns run (givenOf p run (read (call (Calls.block t frames at x y)) next)) o place (turnOf v place next true (r .player)) o′
+      → Turns run (givenOf p run (read (call (Calls.block t frames at x y)) next)) o place (turnOf v place next true (withDeck p (r .deck))) o′
   unfolding givenBy numbers stateAfter
   block-turned run o place next g =
       same-turns
       (λ most. rw (block-numbers w n-is f-is, w .state-is))
-      (turned run o place (listed (take n (r .answer ∷ f ∷ [])) x′ y′) next true (r .player) (w .valid) g)
+      (turned run o place (listed (take n (r .answer ∷ f ∷ [])) x′ y′) next true (withDeck p (r .deck)) (w .valid) g)

@@ -52,7 +52,9 @@ fn play(
     ensures { λ r. ⌜ TurnsBy (blockAsked t frames restart (now (x .entry)) (now (y .entry))) at p (now (out .entry)) place r (now (out .exit)) ⌝ }
 {
     let r = player::play(p, t, frames, restart, x, y);
-    let after = r.player;
+    let deck = r.deck;
+    let mut after = p;
+    after.deck = deck;
     let numbers = [r.answer as u64, flag(r.finished)];
     let count = how_many(r.answer);
     let w = replies::write_lists(out, place, &numbers[..count], x, y);

@@ -1,5 +1,4 @@
--- A block of a voice keeps its anchor within the frames played, and leaves it made for the settings' type. Assumes nothing.
-use mathlib.Core.Path.{_≡_, refl, _∙_}
+-- A block of a voice keeps its anchor within the frames played. Assumes nothing.
 use Prim.Native.Nat.{ℕ, zero, suc, _+_, _-_, _^_, _≤_, min}
 use native.Mathlib.Nat.{min-le-right}
 use native.Mathlib.Omega.{arith}
@@ -12,7 +11,6 @@ use Rattle.settings.specs.declared.record.Settings.{Settings}
 use Rattle.reach.specs.Bounds.{AnchorIn, BlockIn}
 use Rattle.reach.proofs.Reach.{anchor-later, next-anchor-in, begun-in, started-in}
 use Rattle.voice.specs.declared.Voice.{Voice}
-use Rattle.voice.specs.declared.begun.MadeFor.the-variants as MadeFor
 use Rattle.voice.specs.Curve.{Curve}
 use Rattle.voice.specs.Frame.{frameOf}
 use Rattle.voice.specs.Voice.{begunAnchor, begunVoice, restartedAnchor, triggeredVoice}
@@ -25,24 +23,7 @@ module _ (s : Settings) (q : Curve) (b : Block) where
   abbrev after : ℕ → ℕ → Voice → Voice
   after = voiceAfter (s .kind) (s .mode) (s .direction) q b
 
-  -- ---- the type that it is made for
-
-  after-made : (from n : ℕ) (v : Voice) → after from n v .«made_for» ≡ v .«made_for»
-  unfolding voiceAfter frameOf
-  after-made from zero v = refl
-  after-made from (suc n) v = after-made from n v
-
-  begun-made : (k : ℕ) (v : Voice) → begunVoice s b k v .«made_for» ≡ MadeFor.For (s .kind)
-  unfolding begunVoice
-  begun-made k v = refl
-
-  pub parts-made : (frames : ℕ) (v : Voice) (at : Pending) → partsVoice s q b frames v at .«made_for» ≡ MadeFor.For (s .kind)
-  unfolding partsVoice begun restarted
-  parts-made frames v None = after-made 0 frames _ ∙ begun-made 0 v
-  parts-made frames v (At at) = after-made _ _ _ ∙ begun-made (min at frames) _
-
-  -- ---- the anchor, with f frames played before the block
-
+  -- with f frames played before the block
   module _ (B : BlockIn b) (f : ℕ) where
     begun-voice-in : (k : ℕ) (v : Voice) → k ≤ 4096 → f + k ≤ 2 ^ 40 → AnchorIn (f + k) (v .anchor) → AnchorIn (f + k) (begunVoice s b k v .anchor)
     unfolding begunVoice

@@ -1,4 +1,4 @@
--- A block of a page and of a voice that plays it: what it asks of both, and what holds of both after it. Assumes nothing.
+-- A block of a slot and of a voice that plays it: what it asks of both, and what holds of both after it. Assumes nothing.
 use mathlib.Core.Path.{_≡_, ap}
 use mathlib.Core.List.{List}
 use Prim.Native.Nat.{ℕ, _+_, _^_, _≤_, _<_}
@@ -14,7 +14,7 @@ use Rattle.clock.specs.Ready.{preparedOf}
 use Rattle.settings.specs.declared.choices.LfoType.{LfoType}
 use Rattle.settings.specs.declared.record.Settings.{Settings}
 use Rattle.settings.specs.declared.record.Transport.{Transport}
-use Rattle.reach.specs.Bounds.{AnchorIn, BlockIn, FreeIn, ClockIn, SettingsIn, TransportIn}
+use Rattle.reach.specs.Bounds.{AnchorIn, BlockIn, FreeIn, ClockIn, TransportIn}
 use Rattle.reach.proofs.Reach.{sample-count-in, free-count-in}
 use Rattle.reach.proofs.Frame as frame
 use Rattle.voice.specs.declared.Voice.{Voice}
@@ -24,9 +24,8 @@ use Rattle.bank.specs.declared.parts.Pending.{Pending}
 use Rattle.bank.specs.Render.{Stretch}
 use Rattle.bank.specs.Parts.{partsVoice}
 use Rattle.slot.specs.declared.moved.Lists.{Lists}
-use Rattle.slot.specs.declared.Lfo.{Lfo}
 use Rattle.slot.specs.Moved.{LoopbackIn, listsOf, curveWith, movedCurve}
-use Rattle.slot.specs.Slot.{slotCurve, clockedLfo, LfoIn}
+use Rattle.slot.specs.Slot.{Lfo, slotCurve, clockedLfo, LfoIn}
 use Rattle.slot.proofs.Anchors.{parts-in}
 use Rattle.slot.proofs.Curves.{searchable}
 
@@ -44,7 +43,7 @@ curve-is kind shape path buses l e = ap (λ (m : Lists). curveWith kind shape pa
 -- ---- a block of `frames` frames, after f frames
 
 module _ (lfo : Lfo) (t : Transport) (f frames : ℕ)
-    (i : LfoIn f lfo) (I : SettingsIn (lfo .settings)) (J : TransportIn t) (short : frames ≤ 4096) (within : f + frames ≤ 2 ^ 40) where
+    (i : LfoIn f lfo) (J : TransportIn t) (short : frames ≤ 4096) (within : f + frames ≤ 2 ^ 40) where
   abbrev s : Settings
   s = lfo .settings
 
@@ -54,16 +53,16 @@ module _ (lfo : Lfo) (t : Transport) (f frames : ℕ)
   abbrev ready : Prepared
   ready = preparedOf s (lfo .clock) t frames
 
-  -- ---- the page
+  -- ---- the slot
 
   pub count-small : lfo .clock .n + frames < 2 ^ 64
   count-small = omega (arith, i .clock-in .counted-in, within)
 
   pub block-in : BlockIn (ready .block)
-  block-in = frame.block-in s (lfo .clock) t f frames 0 I J (i .clock-in) short within (omega arith)
+  block-in = frame.block-in s (lfo .clock) t f frames 0 (i .settings-in) J (i .clock-in) short within (omega arith)
 
   clocks-in : FreeIn f (ready .block .free) × ClockIn (f + frames) (ready .clock)
-  clocks-in = frame.clock-in s (lfo .clock) t f frames 0 I J (i .clock-in) short within (omega arith)
+  clocks-in = frame.clock-in s (lfo .clock) t f frames 0 (i .settings-in) J (i .clock-in) short within (omega arith)
 
   pub clocked-in : LfoIn (f + frames) (clockedLfo lfo (ready .clock))
   clocked-in = record { settings-in = i .settings-in; shape-in = i .shape-in; path-in = i .path-in; buses-in = i .buses-in; clock-in = clocks-in .1 }
@@ -72,9 +71,9 @@ module _ (lfo : Lfo) (t : Transport) (f frames : ℕ)
 
   module _ (v : Voice) (a : AnchorIn f (v .anchor)) where
     -- what `render_parts` asks
-    pub page-stretch : (kept : Kept) (x y : List Float) → KeptFor (s .kind) q kept → frames ≤ length x → frames ≤ length y
+    pub slot-stretch : (kept : Kept) (x y : List Float) → KeptFor (s .kind) q kept → frames ≤ length x → frames ≤ length y
         → Stretch s q (ready .block) v kept 0 frames x y
-    page-stretch kept x y k room-x room-y =
+    slot-stretch kept x y k room-x room-y =
         record {
           searchable = searchable lfo i (s .kind);
           kept-for = k;

@@ -9,20 +9,19 @@ use Rattle.clock.specs.Ready.{preparedOf}
 use Rattle.settings.specs.declared.choices.Mode.{Mode}
 use Rattle.settings.specs.declared.record.Settings.{Settings}
 use Rattle.settings.specs.declared.record.Transport.{Transport}
-use Rattle.reach.specs.Bounds.{AnchorIn, BlockIn, SettingsIn, TransportIn}
+use Rattle.reach.specs.Bounds.{AnchorIn, BlockIn, TransportIn}
 use Rattle.reach.specs.Laws.{EachFrame}
 use Rattle.voice.specs.declared.Voice.{Voice}
 use Rattle.voice.specs.Curve.{Curve}
 use Rattle.voice.specs.Generate.{countAt}
 use Rattle.bank.specs.Render.{voiceAfter}
 use Rattle.bank.specs.Parts.{begun, restarted}
-use Rattle.slot.specs.declared.Lfo.{Lfo}
-use Rattle.slot.specs.Slot.{slotCurve, LfoIn}
+use Rattle.slot.specs.Slot.{Lfo, slotCurve, LfoIn}
 use Rattle.slot.proofs.Anchors.{after-in, begun-in-block, restarted-in-block}
 use Rattle.slot.proofs.Blocks as blocks
 
 module _ (Law : Mode → Float → Type 0) (each : EachFrame Law) (lfo : Lfo) (t : Transport) (f frames : ℕ)
-    (i : LfoIn f lfo) (I : SettingsIn (lfo .settings)) (J : TransportIn t) (short : frames ≤ 4096) (within : f + frames ≤ 2 ^ 40) where
+    (i : LfoIn f lfo) (J : TransportIn t) (short : frames ≤ 4096) (within : f + frames ≤ 2 ^ 40) where
   abbrev s : Settings
   s = lfo .settings
 
@@ -33,7 +32,7 @@ module _ (Law : Mode → Float → Type 0) (each : EachFrame Law) (lfo : Lfo) (t
   b = preparedOf s (lfo .clock) t frames .block
 
   block-in : BlockIn b
-  block-in = blocks.block-in lfo t f frames i I J short within
+  block-in = blocks.block-in lfo t f frames i J short within
 
   abbrev anchor : (from j : ℕ) (v : Voice) → Anchor
   anchor from j v = voiceAfter (s .kind) (s .mode) (s .direction) q b from j v .anchor
@@ -44,7 +43,7 @@ module _ (Law : Mode → Float → Type 0) (each : EachFrame Law) (lfo : Lfo) (t
 
   counted : (from j : ℕ) (v : Voice) → AnchorIn (f + from) (v .anchor) → from + j ≤ frames → Counted from j v
   unfolding countAt
-  counted from j v a h = each s (lfo .clock) t f frames (from + j) I J (i .clock-in) short within h (s .mode) (anchor from j v) (after-in s q b block-in f from j v a)
+  counted from j v a h = each s (lfo .clock) t f frames (from + j) (i .settings-in) J (i .clock-in) short within h (s .mode) (anchor from j v) (after-in s q b block-in f from j v a)
 
   module _ (v : Voice) (a : AnchorIn f (v .anchor)) where
     -- before the restart, if any

@@ -14,6 +14,8 @@ use Rattle.floatlaws.proofs.Extrema.{clamp-fits}
 use Rattle.listlaws.proofs.Tabulation.{getD-padded}
 use Rattle.points.specs.Modulation.{FiniteBuses}
 use Rattle.points.proofs.Offsets.{moved-number}
+use Rattle.shape_segments.specs.Segments.{emptySegment, containsOf}
+use Rattle.shape_segments.proofs.KeptSegment as shapes
 use Rattle.shape.specs.declared.Loopback.{Loopback}
 use Rattle.shape.specs.declared.Loopback.the-variants as Loopback
 use Rattle.shape.specs.declared.sorting.Point.{Point}
@@ -22,15 +24,16 @@ use Rattle.shape.proofs.Modulation.{modulated-ascends, modulated-x}
 use Rattle.path.specs.declared.PathPoint.{PathPoint}
 use Rattle.path.specs.Paths.{pathOf, defaultPath}
 use Rattle.path.proofs.PathLegs.{legs-in}
+use Rattle.path_segments.specs.Segments.{emptyPath, pathContains}
 use Rattle.path_segments.proofs.AcceptedPath.{accepted-ascends}
+use Rattle.path_segments.proofs.KeptPath as paths
 use Rattle.position.specs.declared.place.LoopPoint.the-variants as LoopPoint
 use Rattle.reach.specs.Bounds.{LoopIn}
 use Rattle.settings.specs.declared.choices.LfoType.{LfoType}
 use Rattle.settings.specs.declared.choices.LfoType.the-variants as LfoType
-use Rattle.voice.specs.Curve.{Searchable}
-use Rattle.slot.specs.declared.Lfo.{Lfo}
+use Rattle.voice.specs.Curve.{Curve, voidKept, Searchable, KeptFor}
 use Rattle.slot.specs.Moved.{shapeLists, listsOf, LoopbackIn, loopAt, loopOf, movedCurve}
-use Rattle.slot.specs.Slot.{slotCurve, ShapeIn, PathIn, LfoIn}
+use Rattle.slot.specs.Slot.{Lfo, slotCurve, ShapeIn, PathIn, LfoIn}
 
 -- ---- a moved point is an f32 from 0 to 1
 
@@ -50,7 +53,7 @@ point-in points buses n number i h = (
   modulated-x points buses n number i h,
 )
 
--- ---- of a page
+-- ---- of a slot
 
 module _ {frames : ℕ} (lfo : Lfo) (i : LfoIn frames lfo) where
   -- at its own buses
@@ -76,6 +79,16 @@ module _ {frames : ℕ} (lfo : Lfo) (i : LfoIn frames lfo) where
   loop-in LfoType.Lorenz = tt
   loop-in LfoType.Rossler = tt
   loop-in LfoType.SampleAndHold = tt
+
+-- ---- no segment kept
+
+pub void-for : (kind : LfoType) (q : Curve) → KeptFor kind q voidKept
+unfolding KeptFor
+void-for LfoType.Drawn q = λ (p : Float) (h : T (containsOf emptySegment p)). absurd (shapes.empty-holds-nothing p h)
+void-for LfoType.Path q = λ (p : Float) (h : T (pathContains emptyPath p)). absurd (paths.empty-holds-nothing p h)
+void-for LfoType.Lorenz q = tt
+void-for LfoType.Rossler q = tt
+void-for LfoType.SampleAndHold q = tt
 
 -- ---- accepted paths, and the default curves
 

@@ -1,4 +1,3 @@
-pub mod Caches
 pub mod Anchors
 pub mod Curves
 pub mod Blocks

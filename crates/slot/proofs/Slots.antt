@@ -1,6 +1,6 @@
 -- What holds of a new slot, and of stored settings. Assumes nothing.
 use mathlib.Core.Path.{sym, subst}
-use mathlib.Core.Bool.{Bool, true, false, false≢true}
+use mathlib.Core.Bool.{Bool, true, false}
 use Prim.Native.Nat.{ℕ}
 use lib.Dec.{T}
 use lib.ListN.{replicate, getD-replicate, length-replicate}
@@ -20,7 +20,7 @@ use Rattle.settings.specs.Records.{clampedSettings}
 use Rattle.reach.specs.Bounds.{AnchorIn, RateNumber, SettingsIn}
 use Rattle.reach.proofs.Reach.{new-clock-in, new-anchor-in}
 use Rattle.voice.specs.Voice.{newVoice}
-use Rattle.slot.specs.Slot.{newLfo, newSlot, StoredIn, LfoIn, CacheIn}
+use Rattle.slot.specs.Slot.{newLfo, LfoIn}
 use Rattle.slot.proofs.Curves.{default-shape, default-path}
 
 -- ---- settings with no NaN stay so as they are stored
@@ -47,11 +47,7 @@ unfolding clampedSettings
 stored-in s i =
     record { rate-number = rate-number (s .rate) (i .rate-number); phase-number = clamped-number (s .phase) f32-360 (i .phase-number) turn; grid-in = i .grid-in }
 
-pub clamped-in : (s : Settings) → StoredIn s → StoredIn (clampedSettings s)
-unfolding clampedSettings
-clamped-in s i grid = stored-in s (i grid)
-
--- ---- a new slot: its page, its voice and its cache
+-- ---- a new slot, and its voice
 
 zero-finite : T (finite f32-0)
 unfolding ofBits
@@ -60,10 +56,10 @@ zero-finite = tt
 zeros-finite : FiniteBuses (replicate 16 f32-0)
 zeros-finite k h = subst (λ (x : Float). T (finite x)) (sym (getD-replicate 16 k f32-0 nan h)) zero-finite
 
-pub new-lfo-in : (s : Settings) → StoredIn s → LfoIn 0 (newLfo s)
+pub new-lfo-in : (s : Settings) → SettingsIn s → LfoIn 0 (newLfo s)
 new-lfo-in s i =
     record {
-      settings-in = clamped-in s i;
+      settings-in = stored-in s i;
       shape-in = default-shape;
       path-in = default-path;
       buses-in = record { long = length-replicate 16 f32-0; finite-all = zeros-finite };
@@ -73,6 +69,3 @@ new-lfo-in s i =
 pub new-voice-in : (seed : ℕ) → AnchorIn 0 (newVoice seed .anchor)
 unfolding newVoice
 new-voice-in seed = new-anchor-in
-
-pub new-cache-in : (s : Settings) (seed : ℕ) → CacheIn (newSlot s seed)
-new-cache-in s seed kind fresh made = absurd (false≢true fresh)

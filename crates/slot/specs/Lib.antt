@@ -1,3 +1,3 @@
 pub mod Moved
-pub mod Cached
 pub mod Slot
+pub mod Page

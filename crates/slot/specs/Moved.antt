@@ -4,7 +4,6 @@ use mathlib.Core.Bool.{false, cond}
 use mathlib.Core.List.{List}
 use lib.ListN.{getD, replicate}
 use lib.Ieee.{Float, nan}
-use Rattle.floatlaws.specs.Numbers.{f32-0}
 use Rattle.shape.specs.declared.Loopback.{Loopback}
 use Rattle.shape.specs.declared.Loopback.the-variants as Loopback
 use Rattle.shape.specs.declared.Shape.{Shape}
@@ -18,9 +17,6 @@ use Rattle.settings.specs.declared.choices.LfoType.the-variants as LfoType
 use Rattle.voice.specs.Source.{isPath}
 use Rattle.voice.specs.Curve.{Curve, curveBy}
 use Rattle.slot.specs.declared.moved.Lists.{Lists}
-
-abbrev pub zeroLists : Lists
-zeroLists = record { xs = replicate 64 f32-0; ys = replicate 64 f32-0; es = replicate 64 f32-0; steps = replicate 64 false }
 
 -- a shape's, with the strengths and the steps of its segments
 unfoldable pub shapeLists : Shape → List Float → Lists

@@ -1,7 +1,6 @@
--- A slot: as it is made, the curve of its page, and what holds of it. Assumes nothing.
-use Prim.Native.Nat.{ℕ, suc, _^_, _≤_, _<_}
+-- An LFO slot as the rules see it: as it is made, its curve, and what holds of it. Assumes nothing.
+use Prim.Native.Nat.{ℕ, suc, _≤_}
 use mathlib.Core.Path.{_≡_}
-use mathlib.Core.Bool.{true}
 use mathlib.Core.List.{List}
 use lib.ListN.{length, replicate}
 use lib.Ieee.{Float}
@@ -19,23 +18,20 @@ use Rattle.settings.specs.Records.{clampedSettings}
 use Rattle.clock.specs.declared.free.Clock.{Clock}
 use Rattle.clock.specs.Free.{newClock}
 use Rattle.reach.specs.Bounds.{ClockIn, SettingsIn}
-use Rattle.voice.specs.declared.begun.MadeFor.the-variants as MadeFor
 use Rattle.voice.specs.Curve.{Curve}
-use Rattle.voice.specs.Voice.{newVoice}
-use Rattle.slot.specs.declared.Lfo.{Lfo}
-use Rattle.slot.specs.declared.Slot.{Slot}
 use Rattle.slot.specs.Moved.{LoopbackIn, movedCurve}
-use Rattle.slot.specs.Cached.{newCache, CacheFor}
 
--- ---- as it is made
+-- its settings, curves, bus values and free clock
+pub record Lfo : Type 0 where
+  pub settings : Settings
+  pub shape : Shape
+  pub path : Path
+  pub buses : List Float
+  pub clock : Clock
 
+-- as it is made
 abbrev pub newLfo : Settings → Lfo
 newLfo s = record { settings = clampedSettings s; shape = defaultShape; path = defaultPath; buses = replicate 16 f32-0; clock = newClock }
-
-abbrev pub newSlot : Settings → ℕ → Slot
-newSlot s seed = record { lfo = newLfo s; voice = newVoice seed; cache = newCache }
-
--- ---- the page
 
 -- the curve that frames of a type read
 abbrev pub slotCurve : LfoType → Lfo → Curve
@@ -45,11 +41,7 @@ slotCurve kind lfo = movedCurve kind (lfo .shape) (lfo .path) (lfo .buses)
 abbrev pub clockedLfo : Lfo → Clock → Lfo
 clockedLfo lfo clock = record { settings = lfo .settings; shape = lfo .shape; path = lfo .path; buses = lfo .buses; clock = clock }
 
--- ---- what holds of the page after `frames` frames, whatever voices played them
-
--- of its settings, whose grid is a u16
-abbrev pub StoredIn : Settings → Type 0
-StoredIn s = s .«grid_x» < 2 ^ 16 → SettingsIn s
+-- ---- what holds of it after `frames` frames, whatever voices played them
 
 pub record ShapeIn (shape : Shape) : Type 0 where
   pub short : shape .len ≤ 64
@@ -66,16 +58,8 @@ pub record BusesIn (buses : List Float) : Type 0 where
   pub finite-all : FiniteBuses buses
 
 pub record LfoIn (frames : ℕ) (lfo : Lfo) : Type 0 where
-  pub settings-in : StoredIn (lfo .settings)
+  pub settings-in : SettingsIn (lfo .settings)
   pub shape-in : ShapeIn (lfo .shape)
   pub path-in : PathIn (lfo .path)
   pub buses-in : BusesIn (lfo .buses)
   pub clock-in : ClockIn frames (lfo .clock)
-
--- ---- what ties the cache to page and voice
-
--- a fresh one is that of the type that the voice last began a stretch for
-abbrev pub CacheIn : Slot → Type 0
-CacheIn slot =
-    (kind : LfoType) → slot .cache .fresh ≡ true → slot .voice .«made_for» ≡ MadeFor.For kind
-    → CacheFor kind (slot .lfo .shape) (slot .lfo .path) (slot .lfo .buses) (slot .cache)

@@ -8,7 +8,7 @@ use shape::Loopback;
 use shape::Shape;
 ghost use mathlib.Core.Path.{_≡_};
 ghost use Prim.Native.Nat.{_≤_};
-ghost use Rattle.slot.specs.Moved.{zeroLists, shapeLists, pathLists, listsOf, pointsOf, LoopbackIn, loopOf};
+ghost use Rattle.slot.specs.Moved.{shapeLists, pathLists, listsOf, pointsOf, LoopbackIn, loopOf};
 
 // A shape's points with the strengths and the steps of its segments, or a path's with their bends.
 pub struct Lists {
@@ -19,20 +19,6 @@ pub struct Lists {
 }
 
 impl Lists {
-    // Of no points.
-    pub fn zeros() -> Self
-        ensures { λ r. ⌜ r ≡ zeroLists ⌝ }
-    {
-        let zeros = [0.0f32; MAX_POINTS];
-        let steps = [false; MAX_POINTS];
-        Lists {
-            xs: zeros,
-            ys: zeros,
-            es: zeros,
-            steps,
-        }
-    }
-
     fn of_shape(shape: Shape, buses: &[f32; POINT_BUSES]) -> Self
         requires { ⌜ shape .len ≤ 64 ⌝ }
         ensures { λ r. ⌜ r ≡ shapeLists shape (now (buses .entry)) ⌝ }

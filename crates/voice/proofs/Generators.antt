@@ -28,7 +28,7 @@ use Rattle.voice.specs.Generate.{placeOf, sourceAfter, rawOf, shapedAt, 
 abbrev pub OneOf : ℕ → ℕ → LfoType → Type 0
 OneOf a b kind = (tagOf the-type kind ≡ a) ⊎ (tagOf the-type kind ≡ b)
 
-neither : {k a b : ℕ} → (k ≡ a → ⊥) → (k ≡ b → ⊥) → (k ≡ a) ⊎ (k ≡ b) → ⊥
+pub neither : {k a b : ℕ} → (k ≡ a → ⊥) → (k ≡ b → ⊥) → (k ≡ a) ⊎ (k ≡ b) → ⊥
 neither f g (inl e) = f e
 neither f g (inr e) = g e
 

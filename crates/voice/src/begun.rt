@@ -84,8 +84,7 @@ fn begun_anchor(mode: Mode, anchor: Anchor, block: Block, from: u64) -> Anchor
 {
     match mode {
         Mode::Free => anchor,
-        Mode::Restart => anchor.begun(block, from),
-        Mode::OneShot => anchor.begun(block, from),
+        Mode::Restart | Mode::OneShot => anchor.begun(block, from),
     }
 }
 

@@ -1,73 +1,70 @@
--- `render_parts` meets its contract. Assumes nothing.
+-- `render_parts` meets its contract. The invariant says where the block stands; `one-more` is one turn. Assumes nothing.
+use mathlib.Core.Path.{_≡_, refl, sym, _∙_}
 use native.Mathlib.Omega.{arith}
 use borrow.Author.Needs.{needs}
-use Rattle.bank.proofs.Blocks.{first-frames, plays-through, restart-stretch, plays-restart}
+use lib.ListN.{length}
+use Rattle.voice.specs.Curve.{curveBy}
+use Rattle.bank.proofs.Blocks.{x-long, y-long}
+use Rattle.bank.proofs.Stages.{Stage, ahead, opens, in-order, next-stretch, all-played, one-more}
 use Rattle.bank.proofs.parts.render_parts.Statement.{statement}
 use Rattle.bank.proofs.parts.render_parts.Tie as tie
 
-enum-told : tie.Need-enum-told
-enum-told c = search needs
+abbrev Inv-loop : tie.InvT-loop
+Inv-loop s block xs ys es steps n times closed loopback frames x₀ y₀ w₀ held₀ last₀ from₀ end₀ left₀ x y w held last from end left =
+    (length x ≡ length x₀) × (length y ≡ length y₀) × Stage s (curveBy xs ys es steps n times closed loopback) block w₀ held₀ frames end₀ left₀ x₀ y₀ x y w held last from end left
 
-begin-stretch-requires : tie.Need-begin-stretch-requires
-begin-stretch-requires c κs = search needs
+abbrev μ-loop : tie.MeasureT-loop
+μ-loop s block xs ys es steps n times closed loopback frames x₀ y₀ w₀ held₀ last₀ from₀ end₀ left₀ x y w held last from end left = left
 
-enum-known-at : tie.Need-enum-known-at
-enum-known-at c = search needs
+loop-holds : tie.Need-loop-holds Inv-loop μ-loop
+loop-holds c = (refl, refl, ahead refl refl refl refl refl refl refl refl)
 
-lesser-requires : tie.Need-lesser-requires
-lesser-requires c κs = search needs
+sub-begin-stretch : tie.Need-sub-begin-stretch Inv-loop μ-loop
+sub-begin-stretch c = let l = c .before in let t = l .before in let e = t .before in let s = e .before .before .before in
+    in-order _ _ _ _ _ _ _ _ _ _ (opens _ _ _ _ _ _ _ _ _ _ (s .args .at) (e .first-end .ensures) (t .stretches .ensures) (s .pre)) (l .loop .inv .2)
+    (c .loop-test .taken)
 
-begin-stretch-requires-2 : tie.Need-begin-stretch-requires-2
-begin-stretch-requires-2 c κs = let l = c .before .before in let s = l .before .before .before .before .before .before in
-    first-frames _ _ _ (l .lesser .result) (l .lesser .ensures .1) (s .pre)
+begin-stretch-requires : tie.Need-begin-stretch-requires Inv-loop μ-loop
+begin-stretch-requires c κs = let h = c .before .before in let l = h .before in let t = l .before in let e = t .before in let s = e .before .before .before in
+    next-stretch _ _ _ _ _ _ _ _ _ _ (opens _ _ _ _ _ _ _ _ _ _ (s .args .at) (e .first-end .ensures) (t .stretches .ensures) (s .pre)) (l .loop .inv .2)
+    (h .loop-test .taken)
 
-trigger-requires : tie.Need-trigger-requires
-trigger-requires c κs = search needs
+loop-again : tie.Need-loop-again Inv-loop μ-loop
+loop-again c =
+    let n = c .before in
+    let p = n .before .before .before .before .before .before in
+    let h = p .before .before .before in
+    let l = h .before in
+    let t = l .before in
+    let e = t .before in
+    let s = e .before .before .before in
+    let asked = begin-stretch-requires (p .before) (p .begin-stretch .lifetimes) in (
+      x-long _ _ _ asked (p .begin-stretch .ensures) ∙ l .loop .inv .0,
+      y-long _ _ _ asked (p .begin-stretch .ensures) ∙ l .loop .inv .1,
+      one-more _ _ _ _ _ _ _ _ _ _ (opens _ _ _ _ _ _ _ _ _ _ (s .args .at) (e .first-end .ensures) (t .stretches .ensures) (s .pre)) (l .loop .inv .2)
+          (h .loop-test .taken) (p .begin-stretch .result) _ _ (p .begin-stretch .ensures) _ (n .between .ensures),
+    )
 
-sub-begin-stretch : tie.Need-sub-begin-stretch
-sub-begin-stretch c = search needs
-
-begin-stretch-requires-3 : tie.Need-begin-stretch-requires-3
-begin-stretch-requires-3 c κs = let t = c .before .before .before in let a = t .before .before .before .before .before .before in let l = a .before .before .before in let s = l .before .before .before .before .before .before in
-    restart-stretch _ _ _ _ _ _ _ _ _ (l .lesser .ensures .0) (l .lesser .ensures .1) (omega (arith, s .pre .room-x)) (omega (arith, s .pre .room-y)) _ _ _ (a .begin-stretch2 .ensures) _ (t .trigger .ensures) (s .pre)
-
-same-length : tie.Need-same-length
-same-length c = search needs
-
-same-length-2 : tie.Need-same-length-2
-same-length-2 c = search needs
-
-returns : tie.Need-returns
-returns c = let a = c .before .before .before .before in
-    rw (a .before .before .before .enum-told .given .1) (plays-through _ _ _ _ _ _ _ _ _ _ (a .begin-stretch .ensures))
-
-same-length-3 : tie.Need-same-length-3
-same-length-3 c = search needs
-
-same-length-4 : tie.Need-same-length-4
-same-length-4 c = search needs
-
-returns-2 : tie.Need-returns-2
-returns-2 c = let r = c .before .before .before .before in let t = r .before .before .before .before in let a = t .before .before .before .before .before .before in let l = a .before .before .before in let s = l .before .before .before .before .before .before in
-    rw (l .before .before .at .given .1)
-    (plays-restart _ _ _ _ _ _ _ _ _ (l .lesser .ensures .0) (l .lesser .ensures .1) (omega (arith, s .pre .room-x)) (omega (arith, s .pre .room-y)) _ _ _ (a .begin-stretch2 .ensures) _ (t .trigger .ensures) _ _ _
-    (r .begin-stretch3 .ensures))
+returns : tie.Need-returns Inv-loop μ-loop
+returns c = let l = c .before in let t = l .before in let e = t .before in let s = e .before .before .before in
+    all-played _ _ _ _ _ _ _ _ _ _ (opens _ _ _ _ _ _ _ _ _ _ (s .args .at) (e .first-end .ensures) (t .stretches .ensures) (s .pre)) (l .loop .inv .2)
+    (omega (arith, c .loop-test .left)) (s .args .at) (sym (t .stretches .ensures)) (sym (e .first-end .ensures))
 
 pub render-parts-spec : {M : Type 1} → statement M
 render-parts-spec =
     tie.close
     (tie.spec
-    enum-told
-    begin-stretch-requires
-    enum-known-at
-    lesser-requires
-    begin-stretch-requires-2
-    trigger-requires
+    Inv-loop
+    μ-loop
+    (λ c κs. search needs)
+    (λ c κs. search needs)
+    loop-holds
     sub-begin-stretch
-    begin-stretch-requires-3
-    same-length
-    same-length-2
-    returns
-    same-length-3
-    same-length-4
-    returns-2)
+    begin-stretch-requires
+    (λ c. search needs)
+    (λ c κs. search needs)
+    (λ c. search needs)
+    loop-again
+    (λ c. search needs)
+    (λ c. search needs)
+    returns)

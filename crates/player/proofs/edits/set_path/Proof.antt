@@ -10,13 +10,20 @@ returns c =
     let s = q .before in
     path-refused _ (s .pre) _ _ (q .path-answer .ensures) (c .if1 .taken)
 
+of-requires : tie.Need-of-requires
+of-requires c κs =
+    let m = c .before .before .before .before in
+    let s = m .before .before .before in
+    (s .pre .lfo-in .shape-in .short, m .path-of .ensures .1)
+
 returns-2 : tie.Need-returns-2
 returns-2 c =
-    let m = c .before .before .before in
+    let o = c .before in
+    let m = o .before .before .before .before .before in
     let i = m .before in
     let q = i .before in
     let s = q .before in
-    path-set _ (s .pre) _ _ (q .path-answer .ensures) (i .if1 .left) _ (m .path-of .ensures .0) _ (c .edited .ensures)
+    path-set _ (s .pre) _ _ (q .path-answer .ensures) (i .if1 .left) _ (m .path-of .ensures .0) _ (o .of .ensures) _ (c .edited .ensures)
 
 pub set-path-spec : {M : Type 1} → statement M
-set-path-spec = tie.close (tie.spec (λ c κs. search needs) returns (λ c κs. search needs) (λ c κs. search needs) returns-2)
+set-path-spec = tie.close (tie.spec (λ c κs. search needs) returns (λ c κs. search needs) of-requires (λ c κs. search needs) returns-2)

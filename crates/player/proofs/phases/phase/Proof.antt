@@ -19,7 +19,7 @@ returns-2 c =
 returns-3 : tie.Need-returns-3
 unfolding phaseResultAnswer
 returns-3 c =
-    let k = c .before .before .before .before .before .before .before in
+    let k = c .before .before .before .before .before in
     let f = k .before .before in
     let known = sym (f .from-codes .ensures) ∙ k .transport .given .1 in
     phase-at _ _ _ (f .before .before .phase-answer .ensures) (f .before .if1 .left) _ known _ (c .phase .ensures)
