@@ -22,9 +22,9 @@ pub struct Adverse {
     kind: lfo::LfoType,
     pub buses: [u8; 2],
     /// As the last accepted call left them, with the setting that gave the coefficient.
-    settings: Settings,
-    smooth: f32,
-    transport: Transport,
+    pub settings: Settings,
+    pub smooth: f32,
+    pub transport: Transport,
     calls: Vec<Call>,
     smooths: Vec<f32>,
 }
@@ -154,8 +154,8 @@ impl Adverse {
         }
     }
 
-    // Between two blocks most hosts only move on.
-    fn change_transport(&mut self) {
+    /// Between two blocks most hosts only move on.
+    pub fn change_transport(&mut self) {
         match self.v.below(16) {
             0 => self.transport = self.transport(),
             1 | 2 => self.transport.playing = !self.transport.playing,
@@ -207,15 +207,22 @@ impl Adverse {
         }
     }
 
+    /// Whether the next block's increment asks for another coefficient, which the settings then have; now and then it is left as it was.
+    pub fn has_other_coefficient(&mut self) -> bool {
+        if self.smooth <= 0.0 || self.v.one_in(8) {
+            return false;
+        }
+        let own = coefficient(&self.settings, self.smooth, &self.transport);
+        let other = own != self.settings.smooth;
+        self.settings.smooth = own;
+        other
+    }
+
     /// A block of so many frames, after the settings that its increment asks for; the song position moves on.
     pub fn block(&mut self, frames: u64) {
         self.change_transport();
-        if self.smooth > 0.0 && !self.v.one_in(8) {
-            let own = coefficient(&self.settings, self.smooth, &self.transport);
-            if own != self.settings.smooth {
-                self.settings.smooth = own;
-                self.push(Call::Settings(self.settings), self.smooth);
-            }
+        if self.has_other_coefficient() {
+            self.push(Call::Settings(self.settings), self.smooth);
         }
         let restart = self.restart(frames);
         let block = Block {

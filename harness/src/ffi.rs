@@ -1,4 +1,4 @@
-//! The functions of crates/exports, `lfo_run`, `lfo_item_read` and `lfo_item_write`, each in a safe wrapper of its own name. None of them asks
+//! The functions of crates/exports, `lfo_run`, `lfo_ensemble_run`, `lfo_item_read` and `lfo_item_write`, each in a safe wrapper of its own name. None asks
 //! anything of its arguments: each is proved to end and to read and write within its slices only, whatever they hold, so every call is sound.
 
 /// `name(number: type, ..) -> result`
@@ -61,6 +61,17 @@ mod runner {
 /// `lfo_run` of crates/runner, as docs/RUN.md says.
 pub fn lfo_run(run: &[u8], out: &mut [u8]) -> u64 {
     unsafe { runner::lfo_run(run.as_ptr(), run.len(), out.as_mut_ptr(), out.len()) }
+}
+
+mod ensemble {
+    unsafe extern "C" {
+        pub fn lfo_ensemble_run(_: *const u8, _: usize, _: *mut u8, _: usize) -> u64;
+    }
+}
+
+/// `lfo_ensemble_run` of crates/ensemble_runner, as docs/RUN.md says.
+pub fn lfo_ensemble_run(run: &[u8], out: &mut [u8]) -> u64 {
+    unsafe { ensemble::lfo_ensemble_run(run.as_ptr(), run.len(), out.as_mut_ptr(), out.len()) }
 }
 
 mod item {

@@ -4,6 +4,7 @@
 //!     harness/run compare all
 //!     harness/run compare floats 100000000 7
 //!     harness/run compare runs 1000000 11 300000000
+//!     harness/run compare ensembles 1000000 1 300000000
 //!     harness/run compare items 10000000 1
 //!     harness/run vectors chaos
 //!
@@ -16,6 +17,15 @@ mod bend;
 mod choices;
 mod drawn;
 mod ends;
+mod ensemble_adverse;
+mod ensemble_figures;
+mod ensemble_player;
+mod ensemble_questions;
+mod ensemble_reference;
+mod ensemble_run;
+mod ensemble_stored;
+mod ensemble_voices;
+mod ensembles;
 mod ffi;
 mod figures;
 mod floats;
@@ -59,27 +69,32 @@ const SUBJECTS: [(&str, Compare, u64); 4] = [
 ];
 
 const USAGE: &str = "usage: harness/run vectors chaos|curves
-       harness/run vectors runs DIR
-       harness/run show BYTES
+       harness/run vectors runs|ensembles DIR
+       harness/run show [ensemble] BYTES
        harness/run items examples DIR
        harness/run items show FILE
        harness/run compare SUBJECT|all [COUNT] [SEED]
        harness/run compare runs [COUNT] [SEED] [FRAMES]
        harness/run compare runs ends [COUNT] [SEED]
+       harness/run compare ensembles [COUNT] [SEED] [VALUES]
        harness/run compare items [COUNT] [SEED]
        harness/run compare bend long
        harness/run compare legs long
        harness/run compare runs long
 SUBJECT is floats, bend, legs or choices; COUNT the least number of values of each.
-BYTES are those of a run, in hexadecimal.
+BYTES are those of a run, of a player or of an ensemble, in hexadecimal.
 Of items, COUNT is the least number of records; `items show` writes the fields of the record in FILE beside its bytes.
-Of runs, COUNT is the least number of runs and FRAMES of frames; run i has the seed SEED + i.";
+Of runs, COUNT is the least number of runs and FRAMES of frames; run i has the seed SEED + i.
+Of ensembles the same, VALUES being the least number of values of x and y.";
 
 /// The runs of a short comparison.
 const RUNS: u64 = 100_000;
 
 /// The runs about the end of a One-shot of a short comparison.
 const ENDS: u64 = 10_000;
+
+/// The runs of ensembles of a short comparison.
+const ENSEMBLES: u64 = 30_000;
 
 /// The records of a short comparison.
 const RECORDS: u64 = 1_000_000;
@@ -122,6 +137,7 @@ fn compare(subject: &str, count: Option<u64>, seed: u64) -> bool {
         right &= items(&[]);
         right &= runs(&[]);
         right &= ends(&[]);
+        right &= ensembles(&[]);
     }
     println!(
         "{compared} values compared: {}",
@@ -174,6 +190,20 @@ fn ends(words: &[&str]) -> bool {
     is_release() && runs::compare_ends(word(0, ENDS), word(1, 1))
 }
 
+/// Compares runs of ensembles: COUNT, SEED, VALUES.
+fn ensembles(words: &[&str]) -> bool {
+    if words.len() > 3 {
+        usage();
+    }
+    let word = |i: usize, other: u64| words.get(i).map_or(other, |w| number(w));
+    let wanted = ensembles::Wanted {
+        runs: word(0, ENSEMBLES),
+        seed: word(1, 1),
+        values: word(2, 0),
+    };
+    is_release() && ensembles::compare(&wanted)
+}
+
 /// Compares items: COUNT, SEED.
 fn items(words: &[&str]) -> bool {
     if words.len() > 2 {
@@ -183,10 +213,16 @@ fn items(words: &[&str]) -> bool {
     is_release() && item_compare::compare(word(0, RECORDS), word(1, 1))
 }
 
-fn stored_runs(dir: &str) -> bool {
+/// Shows the run of some bytes.
+fn shown(hex: &str, show: fn(&[u8])) -> bool {
+    show(&shrunk::unhex(hex).unwrap_or_else(|| usage()));
+    true
+}
+
+fn stored_runs(dir: &str, write: fn(&Path)) -> bool {
     let release = is_release();
     if release {
-        stored::runs(Path::new(dir));
+        write(Path::new(dir));
     }
     release
 }
@@ -203,17 +239,16 @@ fn main() {
             vectors::curves();
             true
         }
-        ["vectors", "runs", dir] => stored_runs(dir),
-        ["show", hex] => {
-            let bytes = shrunk::unhex(hex).unwrap_or_else(|| usage());
-            shrunk::show(&bytes);
-            true
-        }
+        ["vectors", "runs", dir] => stored_runs(dir, stored::runs),
+        ["vectors", "ensembles", dir] => stored_runs(dir, ensemble_stored::runs),
+        ["show", hex] => shown(hex, shrunk::show),
+        ["show", "ensemble", hex] => shown(hex, ensembles::show),
         ["compare", "bend", "long"] => every_curve(),
         ["compare", "legs", "long"] => every_coordinate(),
         ["compare", "runs", "long"] => runs::compare_long(),
         ["compare", "runs", "ends", ref rest @ ..] => ends(rest),
         ["compare", "runs", ref rest @ ..] => runs(rest),
+        ["compare", "ensembles", ref rest @ ..] => ensembles(rest),
         ["compare", "items", ref rest @ ..] => items(rest),
         ["items", "examples", dir] => item_examples::write(Path::new(dir)),
         ["items", "show", file] => item_examples::show(Path::new(file)),

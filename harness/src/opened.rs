@@ -2,7 +2,7 @@
 //! functions, because the module itself cannot be named from outside.
 use super::*;
 use crate::bend::strengths;
-use crate::player::{Heard, Supplied, TimedPath};
+use crate::player::{Heard, Supplied, TimedPath, is_minus_zero};
 
 // chaos.rs
 impl Lfo {
@@ -142,23 +142,49 @@ impl Lfo {
         transport: &Transport,
         (frames, restart): (usize, Option<usize>),
         supplied: &Supplied,
-        mut emit: impl FnMut(usize, f32, f32),
+        emit: impl FnMut(usize, f32, f32),
     ) -> (Block, Heard) {
+        let block = self.prepare_(transport, frames, supplied);
+        let mut heard = self.play_voice_(&block, voice, restart, supplied, emit);
+        heard.zeros |= is_minus_zero(transport.tempo);
+        (block, heard)
+    }
+
+    /// `prepare`, with the coefficient handed in.
+    pub fn prepare_(
+        &mut self,
+        transport: &Transport,
+        frames: usize,
+        supplied: &Supplied,
+    ) -> Block {
         let mut block = self.prepare(transport, frames);
         block.smooth = supplied.smooth;
+        block
+    }
+
+    /// One voice's part of a block that is prepared.
+    pub fn play_voice_(
+        &self,
+        block: &Block,
+        voice: &mut LfoVoice,
+        restart: Option<usize>,
+        supplied: &Supplied,
+        mut emit: impl FnMut(usize, f32, f32),
+    ) -> Heard {
+        let frames = block.frames;
         let mut heard = Heard {
             last: None,
             loopback: None,
-            zeros: transport.tempo == 0.0 && transport.tempo.is_sign_negative(),
+            zeros: false,
         };
         let at = restart.map(|at| at.min(frames));
         let first = (0, at.unwrap_or(frames));
-        self.stretch(&block, voice, first, supplied, &mut heard, &mut emit);
+        self.stretch(block, voice, first, supplied, &mut heard, &mut emit);
         if let Some(at) = at {
-            self.trigger(&block, voice);
-            self.stretch(&block, voice, (at, frames), supplied, &mut heard, &mut emit);
+            self.trigger(block, voice);
+            self.stretch(block, voice, (at, frames), supplied, &mut heard, &mut emit);
         }
-        (block, heard)
+        heard
     }
 
     /// `Shape::value` with our strengths.

@@ -11,8 +11,8 @@ use crate::run::{self, Present};
 use crate::tally::bits32;
 use crate::values::{DIRECTIONS, FEELS, KINDS, MODES};
 
-/// `LfoBank::new` adds it to the slot's seed for voice 0.
-const GOLDEN: u64 = 0x9E37_79B9_7F4A_7C15;
+/// `LfoBank::new` adds it to the slot's seed for voice 0, twice for voice 1, and so on.
+pub const GOLDEN: u64 = 0x9E37_79B9_7F4A_7C15;
 
 /// What stands in for numbers that the source computes.
 #[derive(Clone)]
@@ -37,6 +37,11 @@ pub struct Heard {
 
 pub fn bits(x: f32) -> u32 {
     x.to_bits()
+}
+
+/// Whether a tempo is the zero that `max` is put beside 0.
+pub fn is_minus_zero(tempo: f64) -> bool {
+    tempo == 0.0 && tempo.is_sign_negative()
 }
 
 // ---- from numbers to the source's types; only known codes get here
@@ -191,24 +196,24 @@ pub fn transport_of(t: &run::Transport) -> Transport {
     }
 }
 
-// ---- the player
+// ---- what all voices play from
 
-pub struct Player {
+/// Settings and curves with the numbers that stand in, and the bank that gets the same.
+pub struct Page {
     pub lfo: Lfo,
-    voice: LfoVoice,
-    supplied: Supplied,
+    pub supplied: Supplied,
     /// While strengths, legs and coefficients are the source's own.
-    bank: Option<LfoBank>,
+    pub bank: Option<LfoBank>,
     /// Blocks that the bank played too.
     pub by_bank: u64,
     /// Blocks in which it gave other bits: a fault of the harness.
     pub bank_differed: u64,
 }
 
-impl Player {
-    /// A player; `smooth` is the setting that gave the coefficient, 0 where that is not known.
-    pub fn new(s: &run::Settings, seed: u64, smooth: f32) -> Self {
-        let slot = Lfo::new(settings_of(s, smooth), seed.wrapping_sub(GOLDEN));
+impl Page {
+    /// The page of so many voices; `smooth` is the setting that gave the coefficient, 0 where that is not known.
+    pub fn new(s: &run::Settings, smooth: f32, seed: u64, voices: usize) -> Self {
+        let slot = Lfo::new(settings_of(s, smooth), seed);
         let lfo = Lfo::new(settings_of(s, 0.0), seed);
         let default = TimedPath::new(lfo.path().points(), lfo.path().closed());
         let supplied = Supplied {
@@ -218,9 +223,8 @@ impl Player {
         };
         Self {
             lfo,
-            voice: LfoVoice::new(seed),
             supplied,
-            bank: default.own.then(|| LfoBank::new(slot, 1)),
+            bank: default.own.then(|| LfoBank::new(slot, voices)),
             by_bank: 0,
             bank_differed: 0,
         }
@@ -260,48 +264,12 @@ impl Player {
         self.supplied.times = times;
     }
 
-    pub fn set_bus(&mut self, bus: u64, value: u32) {
-        let (bus, value) = (bus as usize, f32::from_bits(value));
-        self.voice.set_bus(bus, value);
-        if let Some(bank) = &mut self.bank {
-            bank.voice_mut(0).set_bus(bus, value);
-        }
-    }
-
     pub fn smoothed(&self) -> bool {
         self.supplied.smooth.is_some()
     }
 
-    pub fn phase(&self, t: &run::Transport) -> f32 {
-        self.lfo.phase(&self.voice, &transport_of(t))
-    }
-
-    /// Plays a block; says its cycles a sample and what was heard.
-    pub fn block(&mut self, b: &run::Block, x: &mut [f32], y: &mut [f32]) -> (f64, Heard) {
-        let transport = transport_of(&b.transport);
-        let frames = b.frames as usize;
-        let restart = match b.restart {
-            Present::Yes(at) => Some(at as usize),
-            _ => None,
-        };
-        self.check_bank(&transport, frames);
-        let played = (frames, restart);
-        let (block, heard) = self.lfo.play_(
-            &mut self.voice,
-            &transport,
-            played,
-            &self.supplied,
-            |k, a, b| {
-                x[k] = a;
-                y[k] = b;
-            },
-        );
-        self.play_bank(&transport, played, &x[..frames], &y[..frames]);
-        (block.cycles_per_sample(), heard)
-    }
-
-    // The bank ends where its own coefficient for the block is not the one handed in.
-    fn check_bank(&mut self, transport: &Transport, frames: usize) {
+    /// The bank ends where its own coefficient for the block is not the one handed in.
+    pub fn check_bank(&mut self, transport: &Transport, frames: usize) {
         let Some(bank) = &self.bank else { return };
         let handed = self.supplied.smooth.map(bits);
         if bank.lfo.settings.smooth == 0.0 && handed.is_none() {
@@ -313,23 +281,71 @@ impl Player {
         }
     }
 
-    fn play_bank(
-        &mut self,
-        transport: &Transport,
-        (frames, restart): (usize, Option<usize>),
-        x: &[f32],
-        y: &[f32],
-    ) {
+    /// The bank plays the block too, where it still can.
+    pub fn play_bank(&mut self, transport: &Transport, frames: usize, x: &[f32], y: &[f32]) {
         let Some(bank) = &mut self.bank else { return };
-        let (mut own_x, mut own_y) = (vec![0.0; frames], vec![0.0; frames]);
-        if let Some(at) = restart {
-            bank.trigger(0, at);
-        }
+        let (mut own_x, mut own_y) = (vec![0.0; x.len()], vec![0.0; y.len()]);
         bank.process_scalar(transport, frames, &mut own_x, Some(&mut own_y));
         let same = |a: &[f32], b: &[f32]| a.iter().zip(b).all(|(a, b)| bits32(*a) == bits32(*b));
         self.by_bank += 1;
         if !same(&own_x, x) || !same(&own_y, y) {
             self.bank_differed += 1;
         }
+    }
+}
+
+// ---- the player
+
+pub struct Player {
+    pub page: Page,
+    voice: LfoVoice,
+}
+
+impl Player {
+    /// A player; `smooth` is the setting that gave the coefficient, 0 where that is not known.
+    pub fn new(s: &run::Settings, seed: u64, smooth: f32) -> Self {
+        Self {
+            page: Page::new(s, smooth, seed.wrapping_sub(GOLDEN), 1),
+            voice: LfoVoice::new(seed),
+        }
+    }
+
+    pub fn set_bus(&mut self, bus: u64, value: u32) {
+        let (bus, value) = (bus as usize, f32::from_bits(value));
+        self.voice.set_bus(bus, value);
+        if let Some(bank) = &mut self.page.bank {
+            bank.voice_mut(0).set_bus(bus, value);
+        }
+    }
+
+    pub fn phase(&self, t: &run::Transport) -> f32 {
+        self.page.lfo.phase(&self.voice, &transport_of(t))
+    }
+
+    /// Plays a block; says its cycles a sample and what was heard.
+    pub fn block(&mut self, b: &run::Block, x: &mut [f32], y: &mut [f32]) -> (f64, Heard) {
+        let transport = transport_of(&b.transport);
+        let frames = b.frames as usize;
+        let restart = match b.restart {
+            Present::Yes(at) => Some(at as usize),
+            _ => None,
+        };
+        let page = &mut self.page;
+        page.check_bank(&transport, frames);
+        let (block, heard) = page.lfo.play_(
+            &mut self.voice,
+            &transport,
+            (frames, restart),
+            &page.supplied,
+            |k, a, b| {
+                x[k] = a;
+                y[k] = b;
+            },
+        );
+        if let (Some(bank), Some(at)) = (&mut page.bank, restart) {
+            bank.trigger(0, at);
+        }
+        page.play_bank(&transport, frames, &x[..frames], &y[..frames]);
+        (block.cycles_per_sample(), heard)
     }
 }

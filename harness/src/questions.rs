@@ -4,10 +4,10 @@ use crate::lfo::MAX_POINTS;
 use crate::run::{Block, Call, Mod, Path, Present, Rate, Scale, Settings, Shape, Span, Transport};
 
 /// The frames that a player may play in all.
-const FRAMES: u128 = 1 << 40;
+pub const FRAMES: u128 = 1 << 40;
 
 /// The numbers of the questions to a call, each with its answer.
-type Asked = Vec<(u64, bool)>;
+pub type Asked = Vec<(u64, bool)>;
 
 fn first_no(asked: &Asked) -> u64 {
     asked.iter().find(|q| !q.1).map_or(0, |q| q.0)
@@ -15,7 +15,7 @@ fn first_no(asked: &Asked) -> u64 {
 
 // ---- 1: is each code known?
 
-fn yes_or_no(code: u64) -> bool {
+pub fn yes_or_no(code: u64) -> bool {
     code <= 1
 }
 
@@ -137,7 +137,7 @@ fn in_range(t: &Transport) -> bool {
 
 // ---- the calls
 
-fn settings_asked(s: &Settings) -> Asked {
+pub fn settings_asked(s: &Settings) -> Asked {
     let coefficient = match s.smooth {
         Present::Yes(a) => within(a, 0.0, 1.0),
         _ => true,
@@ -189,7 +189,7 @@ fn path(p: &Path, t: u32) -> Asked {
     ]
 }
 
-fn phase(t: &Transport) -> Asked {
+pub fn phase(t: &Transport) -> Asked {
     vec![
         (1, transport_known(t)),
         (2, transport_finite(t)),
@@ -211,7 +211,7 @@ fn block(b: &Block, played: u64) -> Asked {
     ]
 }
 
-fn asked(call: &Call, played: u64) -> Asked {
+pub fn asked(call: &Call, played: u64) -> Asked {
     match call {
         Call::Settings(s) => settings_asked(s),
         Call::Shape(s) => shape(s, 0),

@@ -23,7 +23,7 @@ impl<'a> Reader<'a> {
         self.bytes.is_empty()
     }
 
-    fn number(&mut self) -> Option<u64> {
+    pub fn number(&mut self) -> Option<u64> {
         let size = 1 + self.bytes.iter().position(|b| *b < 128)?;
         let (number, rest) = self.bytes.split_at(size);
         // 64 bits fill ten groups; the last group of a shortest form is not 0, but for the number 0
@@ -42,7 +42,7 @@ impl<'a> Reader<'a> {
         u32::try_from(self.number()?).ok()
     }
 
-    fn at_most(&mut self, limit: u64) -> Option<u64> {
+    pub fn at_most(&mut self, limit: u64) -> Option<u64> {
         self.number().filter(|n| *n <= limit)
     }
 
@@ -77,7 +77,7 @@ impl<'a> Reader<'a> {
         })
     }
 
-    fn settings(&mut self) -> Option<Settings> {
+    pub fn settings(&mut self) -> Option<Settings> {
         Some(Settings {
             kind: self.number()?,
             mode: self.number()?,
@@ -151,7 +151,7 @@ impl<'a> Reader<'a> {
         })
     }
 
-    fn transport(&mut self) -> Option<Transport> {
+    pub fn transport(&mut self) -> Option<Transport> {
         Some(Transport {
             sample_rate: self.number()?,
             tempo: self.number()?,
@@ -202,7 +202,13 @@ impl<'a> Reader<'a> {
     }
 
     pub fn call(&mut self) -> Option<Call> {
-        Some(match self.number()? {
+        let tag = self.number()?;
+        self.tagged(tag)
+    }
+
+    /// The call behind its tag.
+    pub fn tagged(&mut self, tag: u64) -> Option<Call> {
+        Some(match tag {
             0 => Call::Settings(self.settings()?),
             1 => Call::Shape(self.shape()?),
             2 => Call::Path(self.path()?),

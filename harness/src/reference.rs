@@ -9,7 +9,7 @@ use crate::reading::Reader;
 use crate::run::{Block, Call, Path, Settings, Shape, put_number};
 use crate::tally::bits32;
 
-const MALFORMED: u64 = 255;
+pub const MALFORMED: u64 = 255;
 
 /// What one call gave: the end of its bytes in the output.
 #[derive(Clone, Debug)]
@@ -53,7 +53,7 @@ fn legs_of(path: &Path) -> Vec<f32> {
 }
 
 /// Whether a loopback is in force, by the x of the loopback point, which only a Drawn curve has.
-fn in_force(direction: Direction, heard: &Heard) -> bool {
+pub fn in_force(direction: Direction, heard: &Heard) -> bool {
     heard.loopback.is_some_and(|l| match direction {
         Direction::Forward | Direction::PingPong => 1.0 - l > 1e-9,
         Direction::Reverse => l > 1e-9,
@@ -62,7 +62,7 @@ fn in_force(direction: Direction, heard: &Heard) -> bool {
 
 /// Whether a One-shot has finished with the last frame of a block: never with a loopback in force, else at 2 cycles where a curve goes there and back,
 /// and at 1 in every other case.
-fn finished(s: &lfo::Settings, heard: &Heard) -> bool {
+pub fn finished(s: &lfo::Settings, heard: &Heard) -> bool {
     let there_and_back =
         s.direction == Direction::PingPong && matches!(s.kind, LfoType::Drawn | LfoType::Path);
     let end = if there_and_back { 2.0 } else { 1.0 };
@@ -119,9 +119,9 @@ impl Playing<'_> {
         }
         if answer == 0 {
             match call {
-                Call::Settings(s) => self.player.set_settings(s, smooth),
-                Call::Shape(s) => self.player.set_shape(s),
-                Call::Path(p) => self.player.set_path(p),
+                Call::Settings(s) => self.player.page.set_settings(s, smooth),
+                Call::Shape(s) => self.player.page.set_shape(s),
+                Call::Path(p) => self.player.page.set_path(p),
                 Call::Bus { bus, value } => self.player.set_bus(*bus, *value),
                 Call::Phase(t) => {
                     let phase = self.player.phase(t);
@@ -152,7 +152,7 @@ impl Playing<'_> {
         let mut y = vec![7.0; b.y_len as usize];
         if answer == 0 {
             let (inc, heard) = self.player.block(b, &mut x, &mut y);
-            let s = self.player.lfo.settings;
+            let s = self.player.page.lfo.settings;
             let finished = finished(&s, &heard);
             self.put(finished.into());
             if let (Mode::OneShot, Some(count)) = (s.mode, heard.last) {
@@ -162,11 +162,11 @@ impl Playing<'_> {
             self.frames += b.frames;
             self.blocks += 1;
             self.played.zeros |= heard.zeros;
-            let looped = self.player.lfo.shape().loopback().is_some();
+            let looped = self.player.page.lfo.shape().loopback().is_some();
             let transport = transport_of(&b.transport);
             self.figures.block(&s, looped, &transport, b, inc);
             let n = b.frames as usize;
-            let smoothed = self.player.smoothed();
+            let smoothed = self.player.page.smoothed();
             self.figures
                 .heard(&[&x[..n], &y[..n]], smoothed, finished, heard);
         }
@@ -222,7 +222,7 @@ fn malformed(mut played: Played, figures: &mut Figures) -> Played {
 }
 
 fn ended(playing: Playing<'_>) -> (Played, &mut Figures) {
-    let p = &playing.player;
+    let p = &playing.player.page;
     playing
         .figures
         .bank(playing.blocks, p.by_bank, p.bank_differed);

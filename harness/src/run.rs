@@ -150,11 +150,11 @@ pub struct Run {
 pub struct Numbers(pub Vec<u64>);
 
 impl Numbers {
-    fn put(&mut self, n: impl Into<u64>) {
+    pub fn put(&mut self, n: impl Into<u64>) {
         self.0.push(n.into());
     }
 
-    fn all<const N: usize>(&mut self, list: [u64; N]) {
+    pub fn all<const N: usize>(&mut self, list: [u64; N]) {
         self.0.extend(list);
     }
 
@@ -178,7 +178,7 @@ impl Numbers {
         }
     }
 
-    fn settings(&mut self, s: &Settings) {
+    pub fn settings(&mut self, s: &Settings) {
         self.all([s.kind, s.mode, s.direction]);
         match s.rate {
             Rate::Synced { division, feel } => self.all([0, division, feel]),
@@ -215,7 +215,7 @@ impl Numbers {
         }
     }
 
-    fn transport(&mut self, t: &Transport) {
+    pub fn transport(&mut self, t: &Transport) {
         self.all([t.sample_rate, t.tempo, t.beats_per_bar]);
         self.all([t.playing, t.beats, t.seconds, t.swing.into()]);
         self.scale(t.scale);

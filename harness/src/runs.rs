@@ -83,8 +83,8 @@ fn first_difference(played: &Played, ours: &[u8]) -> String {
     )
 }
 
-// Whether each difference is a 0 of ours where the Rust has −0, in a run where `max` was put both.
-fn is_zero_of_max(played: &Played, ours: &[u8]) -> bool {
+/// Whether each difference is a 0 of ours where the Rust has −0, in a run where `max` was put both.
+pub fn is_zero_of_max(played: &Played, ours: &[u8]) -> bool {
     let (ours, rust) = (numbers(ours), numbers(&played.out));
     played.zeros
         && ours.len() == rust.len()
@@ -114,6 +114,19 @@ fn differs(run: &Run) -> bool {
     ours != played.out && !is_zero_of_max(&played, &ours)
 }
 
+/// A length of `out`: room for all in most runs; now and then about the end of some call's bytes, or any shorter one.
+pub fn out_len(v: &mut Values, played: &Played) -> usize {
+    let full = played.out.len();
+    if !v.one_in(12) {
+        return full + v.index(24);
+    }
+    if played.entries.is_empty() || v.one_in(4) {
+        return v.index(full + 1);
+    }
+    let end = played.entries[v.index(played.entries.len())].end;
+    (end + v.index(3)).saturating_sub(1)
+}
+
 impl Comparison {
     fn new(name: &'static str) -> Self {
         Self {
@@ -133,19 +146,6 @@ impl Comparison {
             self.name, self.figures.runs, self.figures.frames, self.differed, self.known
         );
         self.differed == self.known && self.figures.bank_differed == 0
-    }
-
-    // A length of `out`: room for all in most runs; now and then about the end of some call's bytes, or any shorter one.
-    fn out_len(v: &mut Values, played: &Played) -> usize {
-        let full = played.out.len();
-        if !v.one_in(12) {
-            return full + v.index(24);
-        }
-        if played.entries.is_empty() || v.one_in(4) {
-            return v.index(full + 1);
-        }
-        let end = played.entries[v.index(played.entries.len())].end;
-        (end + v.index(3)).saturating_sub(1)
     }
 
     fn show_difference(&mut self, seed: u64, made: &Made, played: &Played) {
@@ -204,7 +204,7 @@ impl Comparison {
         let played = play(&made.bytes, &made.smooths, &mut self.figures);
         self.figures.runs += 1;
         let mut v = Values::new(!seed);
-        let out_len = Self::out_len(&mut v, &played);
+        let out_len = out_len(&mut v, &played);
         let written = played.fits(out_len);
         self.figures.short += u64::from(written < played.out.len());
         let fill = v.word() as u8;

@@ -9,22 +9,40 @@ use crate::reference::play;
 use crate::run::{Call, Run, Settings};
 use crate::runs::{hex, numbers, whole};
 
+/// A list of calls that can be made smaller.
+pub trait Shrinks: Clone {
+    type Call;
+    fn calls(&mut self) -> &mut Vec<Self::Call>;
+    /// The call made smaller, if it can be.
+    fn smaller(&self, i: usize) -> Option<Self::Call>;
+}
+
+impl Shrinks for Run {
+    type Call = Call;
+    fn calls(&mut self) -> &mut Vec<Call> {
+        &mut self.calls
+    }
+    fn smaller(&self, i: usize) -> Option<Call> {
+        smaller(&self.calls[i])
+    }
+}
+
 /// Drops calls and points and halves blocks as long as the run still differs.
-pub fn shrunk(run: &Run, differs: impl Fn(&Run) -> bool) -> Run {
+pub fn shrunk<R: Shrinks>(run: &R, differs: impl Fn(&R) -> bool) -> R {
     let mut run = run.clone();
-    let mut i = run.calls.len();
+    let mut i = run.calls().len();
     while i > 0 {
         i -= 1;
         let mut shorter = run.clone();
-        shorter.calls.remove(i);
+        shorter.calls().remove(i);
         if differs(&shorter) {
             run = shorter;
         }
     }
-    for i in 0..run.calls.len() {
-        while let Some(call) = smaller(&run.calls[i]) {
+    for i in 0..run.calls().len() {
+        while let Some(call) = run.smaller(i) {
             let mut other = run.clone();
-            other.calls[i] = call;
+            other.calls()[i] = call;
             if !differs(&other) {
                 break;
             }
@@ -34,8 +52,8 @@ pub fn shrunk(run: &Run, differs: impl Fn(&Run) -> bool) -> Run {
     run
 }
 
-// Half a block, without what its buffers have more; a curve without its last point.
-fn smaller(call: &Call) -> Option<Call> {
+/// Half a block, without what its buffers have more; a curve without its last point.
+pub fn smaller(call: &Call) -> Option<Call> {
     let mut call = call.clone();
     match &mut call {
         Call::Block(b) if b.frames > 1 && b.frames <= 4096 => {

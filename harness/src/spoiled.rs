@@ -62,15 +62,24 @@ fn behind(v: &mut Values, way: u64) -> Vec<u64> {
 
 /// The bytes of the run, spoiled in one of the ways.
 pub fn by(v: &mut Values, run: &Run, way: u64) -> Vec<u8> {
-    let numbers = Numbers::run(run).0;
-    let mut bytes = bytes_of(&numbers);
+    spoil(v, &Numbers::run(run).0, behind, way)
+}
+
+/// The bytes of a run's numbers, spoiled in one of the ways; `behind` has calls that are malformed.
+pub fn spoil(
+    v: &mut Values,
+    numbers: &[u64],
+    behind: fn(&mut Values, u64) -> Vec<u64>,
+    way: u64,
+) -> Vec<u8> {
+    let mut bytes = bytes_of(numbers);
     let i = v.index(numbers.len());
     match way {
         0 => bytes.truncate(v.index(bytes.len())),
         1 => bytes.clear(),
-        2 => bytes = with(&numbers, i, &longer(v, numbers[i])),
-        3 => bytes = with(&numbers, i, &too_large(v, numbers[i])),
-        4 => bytes = with(&numbers, i, &past_64_bits(v)),
+        2 => bytes = with(numbers, i, &longer(v, numbers[i])),
+        3 => bytes = with(numbers, i, &too_large(v, numbers[i])),
+        4 => bytes = with(numbers, i, &past_64_bits(v)),
         5 | 6 => {
             let way = v.below(4);
             for n in behind(v, way) {

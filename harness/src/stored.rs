@@ -6,7 +6,7 @@ use crate::figures::{Figures, MAKE};
 use crate::lfo::{Direction, Division, Feel, LfoType, Mode, Rate, Scale, Settings, Span};
 use crate::player::bits;
 use crate::questions::{self, APPLY};
-use crate::reference::play;
+use crate::reference::{Played, play};
 use crate::run::{Call, Path as RunPath, Point, Present, Shape, settings_bits};
 use crate::runs::hex;
 use crate::values::{DIRECTIONS, FEELS, KINDS, MODES, Values};
@@ -700,7 +700,7 @@ fn adverse(list: &mut List) {
     }
 }
 
-/// The kind of a stored run.
+/// The kind of a stored run, of a player or of an ensemble.
 const RUN: u8 = 0;
 
 /// A run, a record or an item, with the length of the output that it is given.
@@ -729,27 +729,44 @@ impl Stored {
     }
 }
 
-/// Every run with just enough room, and of each tenth the same with one byte too few and with half.
-fn with_room(list: &[Vec<u8>], figures: &mut Figures) -> Vec<(Stored, Vec<u8>)> {
+/// Every run with just enough room, and of one in so many the same with one byte too few and with half.
+pub fn with_room(
+    list: &[Vec<u8>],
+    one_in: usize,
+    mut play: impl FnMut(&[u8]) -> Played,
+) -> Vec<(Stored, Vec<u8>)> {
     let mut stored = vec![];
     for (i, bytes) in list.iter().enumerate() {
-        let played = play(bytes, &[], figures);
-        figures.runs += 1;
+        let played = play(bytes);
         let all = played.out.len();
-        let rooms = if i % 10 == 0 && all > 1 {
+        let rooms = if i % one_in == 0 && all > 1 {
             vec![all, all - 1, all / 2]
         } else {
             vec![all]
         };
         for room in rooms {
-            let out = played.out[..played.fits(room)].to_vec();
-            stored.push((Stored::new(RUN, bytes, room), out));
+            stored.push(in_room(bytes, &played, room));
         }
     }
     stored
 }
 
-/// Writes the two files into `dir`.
+/// A run in so much room.
+pub fn in_room(bytes: &[u8], played: &Played, room: usize) -> (Stored, Vec<u8>) {
+    let out = played.out[..played.fits(room)].to_vec();
+    (Stored::new(RUN, bytes, room), out)
+}
+
+/// Writes the two files into `dir`, and answers how long they are.
+pub fn write(dir: &Path, stored: &[(Stored, Vec<u8>)]) -> (usize, usize) {
+    let stdin: Vec<u8> = stored.iter().flat_map(|(s, _)| s.stdin()).collect();
+    let stdout: String = stored.iter().map(|(_, out)| hex(out) + "\n").collect();
+    fs::write(dir.join("stdin"), &stdin).unwrap();
+    fs::write(dir.join("stdout"), &stdout).unwrap();
+    (stdin.len(), stdout.len())
+}
+
+/// Writes the runs of `replay` into `dir`.
 pub fn runs(dir: &Path) {
     let mut list = vec![];
     sheet(&mut list);
@@ -773,14 +790,13 @@ pub fn runs(dir: &Path) {
     malformed(&mut list);
     adverse(&mut list);
     let mut figures = Figures::default();
-    let mut stored = with_room(&list, &mut figures);
+    let mut stored = with_room(&list, 10, |bytes| {
+        figures.runs += 1;
+        play(bytes, &[], &mut figures)
+    });
     let runs = stored.len();
     stored.extend(stored_items::all());
-    let stdin: Vec<u8> = stored.iter().flat_map(|(s, _)| s.stdin()).collect();
-    let stdout: String = stored.iter().map(|(_, out)| hex(out) + "\n").collect();
-    fs::write(dir.join("stdin"), &stdin).unwrap();
-    fs::write(dir.join("stdout"), &stdout).unwrap();
-    let (items, sizes) = (stored.len() - runs, (stdin.len(), stdout.len()));
+    let (items, sizes) = (stored.len() - runs, write(dir, &stored));
     eprintln!(
         "{runs} runs, {items} records and items, {} and {} bytes",
         sizes.0, sizes.1

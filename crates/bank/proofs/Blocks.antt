@@ -2,7 +2,7 @@
 use mathlib.Core.Path.{_≡_, ap, _∙_, subst}
 use mathlib.Core.List.{List, _++_}
 use Prim.Native.Nat.{ℕ, _+_, _-_, _≤_, min}
-use native.Mathlib.Nat.{zero-add}
+use native.Mathlib.Nat.{zero-add, min-le-right}
 use native.Mathlib.Omega.{arith}
 use lib.ListN.{length, drop, length-append}
 use lib.Ieee.{Float}
@@ -17,6 +17,7 @@ use Rattle.voice.specs.declared.generator.Kept.{Kept}
 use Rattle.voice.specs.Curve.{Curve}
 use Rattle.voice.specs.Frame.{Frame}
 use Rattle.voice.specs.Voice.{begunVoice, triggeredVoice}
+use Rattle.bank.specs.declared.parts.Pending.{Pending}
 use Rattle.bank.specs.declared.parts.Pending.the-variants.{None, At}
 use Rattle.bank.specs.declared.stretch.Rendered.{Rendered}
 use Rattle.bank.specs.Render.{voiceAfter, outs, lastCount, Stretch, Renders}
@@ -162,3 +163,11 @@ module _ (s : Settings) (q : Curve) (b : Block) where
             y-is = h .y-is ∙ both (λ f. f .y) y y₁ (first .y-is) room-y;
             kept-is = h .kept-is;
           }
+
+  -- a block has one value for each frame
+  pub length-parts : (n : ℕ) (v : Voice) (at : Pending) (f : Frame → Float) → length (partsOuts s q b n v at f) ≡ n
+  unfolding partsOuts
+  length-parts n v None f = size 0 f n (begun s q b n v)
+  length-parts n v (At at) f =
+      let k = min at n in
+      simp (length-append, size 0 f k (begun s q b n v), size k f (n - k) (restarted s q b n v k)) (omega (arith, min-le-right at n))

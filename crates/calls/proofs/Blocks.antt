@@ -1,9 +1,8 @@
 -- What a block leaves in a buffer, how the free clock counts, and the loopback that finished goes by. Assumes nothing.
-use Prim.Native.Nat.{ℕ, _+_, _-_, _≤_, min}
+use Prim.Native.Nat.{ℕ, _+_, _≤_}
 use mathlib.Core.Path.{_≡_, refl, ap, _∙_}
 use mathlib.Core.Bool.{Bool, true, cond}
 use mathlib.Core.List.{List, _++_}
-use native.Mathlib.Nat.{min-le-right}
 use native.Mathlib.Omega.{arith}
 use borrow.Author.Tests.{eqb-true}
 use lib.ListN.{length, getD, drop, length-append, length-drop}
@@ -13,7 +12,6 @@ use Rattle.shape.specs.declared.Loopback.the-variants as Loopback
 use Rattle.shape.specs.Shapes.{modulatedOf}
 use Rattle.settings.specs.declared.choices.LfoType.{LfoType}
 use Rattle.settings.specs.declared.choices.LfoType.the-variants.{Drawn}
-use Rattle.settings.specs.declared.record.Settings.{Settings}
 use Rattle.settings.specs.declared.record.Transport.{Transport}
 use Rattle.codes.specs.declared.TransportCodes.{TransportCodes}
 use Rattle.settings.specs.declared.record.TransportCode.{TransportCode}
@@ -24,7 +22,6 @@ use Rattle.settings.proofs.Read.{transport-of}
 use Rattle.position.specs.declared.place.LoopPoint.{LoopPoint}
 use Rattle.position.specs.declared.place.LoopPoint.the-variants as LoopPoint
 use Rattle.position.specs.Rest.{finishedOf}
-use Rattle.clock.specs.declared.block.Block.{Block}
 use Rattle.clock.specs.declared.block.SongLock.{SongLock}
 use Rattle.clock.specs.declared.block.SongLock.the-variants as SongLock
 use Rattle.clock.specs.declared.free.Clock.{Clock}
@@ -32,13 +29,9 @@ use Rattle.clock.specs.declared.pace.Tempo.{Tempo}
 use Rattle.clock.specs.Pace.{tempoOf}
 use Rattle.clock.specs.Free.{anchoredClock, tickedOf}
 use Rattle.clock.specs.Ready.{paceAt, lockAt, tickedAt, preparedOf}
-use Rattle.voice.specs.declared.Voice.{Voice}
-use Rattle.voice.specs.Curve.{Curve}
 use Rattle.voice.specs.Frame.{Frame}
 use Rattle.bank.specs.declared.parts.Pending.{Pending}
-use Rattle.bank.specs.declared.parts.Pending.the-variants.{None, At}
-use Rattle.bank.specs.Parts.{begun, restarted, partsOuts}
-use Rattle.bank.proofs.Frames.{length-outs}
+use Rattle.bank.proofs.Blocks.{length-parts}
 use Rattle.slot.specs.Moved.{shapeLists, listsOf, loopOf, movedCurve}
 use Rattle.slot.specs.Slot.{Lfo, slotCurve}
 use Rattle.codes.specs.declared.RestartCodes.{RestartCodes}
@@ -53,15 +46,6 @@ unfolding buffer
 refused-buffer p c frames restart x y f before e = ap (λ (b : Bool). cond b (played p c frames restart f before) before) e
 
 -- ---- one value of each frame
-
-length-parts : (s : Settings) (q : Curve) (b : Block) (n : ℕ) (v : Voice) (at : Pending) (f : Frame → Float) → length (partsOuts s q b n v at f) ≡ n
-unfolding partsOuts
-length-parts s q b n v None f = length-outs (s .kind) (s .mode) (s .direction) q b 0 f n (begun s q b n v)
-length-parts s q b n v (At at) f =
-    let k = min at n in
-    let h = length-outs (s .kind) (s .mode) (s .direction) q b 0 f k (begun s q b n v) in
-    let g = length-outs (s .kind) (s .mode) (s .direction) q b k f (n - k) (restarted s q b n v k) in
-    simp (length-append, h, g) (omega (arith, min-le-right at n))
 
 pub length-values : (p : State) (t : Transport) (n : ℕ) (at : Pending) (f : Frame → Float) → length (values p t n at f) ≡ n
 unfolding values

@@ -10,7 +10,7 @@ ghost use Rattle.replies.specs.Replies.{bytesOf, bitsOf, listed, fits, W
 
 // How many bytes the numbers take.
 fn numbers_size(s: &[u64]) -> usize
-    requires { ⌜ length (now s) ≤ 8192 ⌝ }
+    requires { ⌜ length (now s) ≤ 65600 ⌝ }
     ensures { λ r. ⌜ r ≡ length (bytesOf (now (s .entry))) ⌝ }
 {
     let mut sum: usize = 0;
@@ -31,7 +31,7 @@ pub fn bits(x: f32) -> u64
 
 // How many bytes the bits of floats take.
 fn floats_size(s: &[f32]) -> usize
-    requires { ⌜ length (now s) ≤ 8192 ⌝ }
+    requires { ⌜ length (now s) ≤ 65600 ⌝ }
     ensures { λ r. ⌜ r ≡ length (bytesOf (bitsOf (now (s .entry)))) ⌝ }
 {
     let mut sum: usize = 0;
@@ -97,7 +97,7 @@ fn put_floats(out: &mut [u8], at: usize, s: &[f32]) -> usize
 
 // Writes the numbers at `at`, which may be any place. The bytes before and after them stay, and where there is no room all bytes do.
 pub fn write_numbers(out: &mut [u8], at: usize, s: &[u64]) -> Writing
-    requires { ⌜ length (now s) ≤ 8192 ⌝ }
+    requires { ⌜ length (now s) ≤ 65600 ⌝ }
     ensures { λ r. ⌜ WritesAll (now (out .entry)) at (now (s .entry)) r (now (out .exit)) ⌝ }
 {
     let size = numbers_size(s);
@@ -109,7 +109,7 @@ pub fn write_numbers(out: &mut [u8], at: usize, s: &[u64]) -> Writing
 
 // How many bytes numbers and two lists of floats take.
 fn lists_size(s: &[u64], x: &[f32], y: &[f32]) -> usize
-    requires { ⌜ (length (now s) ≤ 8192) × (length (now x) ≤ 8192) × (length (now y) ≤ 8192) ⌝ }
+    requires { ⌜ (length (now s) ≤ 65600) × (length (now x) ≤ 65600) × (length (now y) ≤ 65600) ⌝ }
     ensures { λ r. ⌜ r ≡ length (bytesOf (listed (now (s .entry)) (now (x .entry)) (now (y .entry)))) ⌝ }
 {
     numbers_size(s) + floats_size(x) + floats_size(y)
@@ -127,7 +127,7 @@ fn put_lists(out: &mut [u8], at: usize, s: &[u64], x: &[f32], y: &[f32]) -> usiz
 
 // Writes numbers and then the bits of two lists of floats.
 pub fn write_lists(out: &mut [u8], at: usize, s: &[u64], x: &[f32], y: &[f32]) -> Writing
-    requires { ⌜ (length (now s) ≤ 8192) × (length (now x) ≤ 8192) × (length (now y) ≤ 8192) ⌝ }
+    requires { ⌜ (length (now s) ≤ 65600) × (length (now x) ≤ 65600) × (length (now y) ≤ 65600) ⌝ }
     ensures { λ r. ⌜ WritesAll (now (out .entry)) at (listed (now (s .entry)) (now (x .entry)) (now (y .entry))) r (now (out .exit)) ⌝ }
 {
     let size = lists_size(s, x, y);

@@ -1,4 +1,3 @@
-pub mod Fitting
 pub mod Turning
 pub mod Readings
 pub mod Replying

@@ -20,12 +20,14 @@ use Rattle.evaluate.specs.Values.{refusedLegs, evaluatedLegs}
 use Rattle.number.specs.declared.Writing.{Writing}
 use Rattle.fields.specs.Parser.{read}
 use Rattle.replies.specs.Replies.{bitsOf, listed, WritesAll}
+use Rattle.outputs.specs.Output.{givenBy}
+use Rattle.outputs.specs.Turns.{turnOf}
 use Rattle.player.specs.declared.Player.{Player}
-use Rattle.player.specs.Player.{Valid}
+use Rattle.player.specs.Player.{stateOf, Valid}
+use Rattle.runner.specs.declared.Turn.{Turn}
 use Rattle.runner.specs.Asked.{legs}
 use Rattle.runner.specs.Numbers.{legsNumbers, numbers, stateAfter}
-use Rattle.runner.specs.Output.{givenBy}
-use Rattle.runner.specs.Promises.{howMany, givenOf, turnOf, Turns}
+use Rattle.runner.specs.Promises.{howMany, givenOf, following, Turns}
 use Rattle.runner.proofs.Turning.{turned, same-turns}
 
 -- there are at most as many legs as points are kept, and where a path is refused there is none
@@ -65,9 +67,9 @@ module _ (c : PathCodes) {r : Legs} (r-is : r ≡ evaluatedLegs c) where
 
   pub legs-turned : (p : Player) → Valid p → {n : ℕ} → n ≡ howMany (r .answer) → (run o : List ℕ) (place at : ℕ)
       → {v : Writing} {o′ : List ℕ} → WritesAll o place (listed (take n (r .answer ∷ r .count ∷ [])) (take (r .count) (r .lengths)) []) v o′
-      → Turns run (givenOf p run (read (legs c) at)) o place (turnOf v place at true p) o′
+      → {k : Turn} → (following k ≡ turnOf v place at true (stateOf p)) × (k .player ≡ p) → Turns run (givenOf p run (read (legs c) at)) o place k o′
   unfolding givenBy numbers stateAfter
-  legs-turned p valid {n} n-is run o place at g =
+  legs-turned p valid {n} n-is run o place at g k-is =
       same-turns
       (λ most. rw (n-is, legs-numbers))
-      (turned run o place (listed (take n (r .answer ∷ r .count ∷ [])) (take (r .count) (r .lengths)) []) at true p valid g)
+      (turned run o place (listed (take n (r .answer ∷ r .count ∷ [])) (take (r .count) (r .lengths)) []) at true p valid g k-is)

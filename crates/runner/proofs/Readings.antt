@@ -1,9 +1,7 @@
 -- The calls, by their parts. Assumes nothing.
 use Prim.Native.Nat.{ℕ, zero, suc}
 use mathlib.Core.Path.{_≡_, refl}
-use mathlib.Core.Bool.{Bool, true, false, cond}
 use mathlib.Core.List.{List}
-use lib.Dec.{eqb}
 use lib.ListN.{getD}
 use lib.Ieee.{Float}
 use Rattle.codes.specs.declared.SettingsCodes.{SettingsCodes}
@@ -13,13 +11,14 @@ use Rattle.calls.specs.Calls as Calls
 use Rattle.fields.specs.declared.reader.Place.{Place}
 use Rattle.codes.specs.declared.ShapeCodes.{ShapeCodes}
 use Rattle.codes.specs.declared.PathCodes.{PathCodes}
-use Rattle.fields.specs.Parser.{read, fault, after}
 use Rattle.fields.specs.Fields.{number, upTo, f32}
-use Rattle.fields.specs.Places.{onward, Reads}
+use Rattle.fields.specs.Places.{Reads}
 use Rattle.runs.specs.Records.{settings, transport, restart}
 use Rattle.runs.specs.Curves.{shape, path}
 use Rattle.fields.proofs.Places.{chain, last}
-use Rattle.runner.specs.Asked.{call, shapeAt, pathAt, legs, sevens, none, byTag, asked}
+use Rattle.outputs.specs.Numbers.{sevens}
+use Rattle.outputs.specs.Output.{none}
+use Rattle.runner.specs.Asked.{call, shapeAt, pathAt, legs, byTag}
 use Rattle.runner.specs.Asked.{settingsCall, shapeCall, pathCall, busCall, phaseCall, blockCall, shapeAtCall, pathAtCall, legsCall}
 use Rattle.runner.specs.Output.{make}
 
@@ -81,14 +80,3 @@ other-tag (suc (suc (suc (suc (suc (suc zero)))))) n₀ n₁ n₂ n₃ n₄ n₅
 other-tag (suc (suc (suc (suc (suc (suc (suc zero))))))) n₀ n₁ n₂ n₃ n₄ n₅ n₆ n₇ n₈ = absurd (n₇ refl)
 other-tag (suc (suc (suc (suc (suc (suc (suc (suc zero)))))))) n₀ n₁ n₂ n₃ n₄ n₅ n₆ n₇ n₈ = absurd (n₈ refl)
 other-tag (suc (suc (suc (suc (suc (suc (suc (suc (suc n))))))))) n₀ n₁ n₂ n₃ n₄ n₅ n₆ n₇ n₈ = refl
-
--- a tag, and then its call
-pub tag-then : (run : List ℕ) (at : ℕ) {tag : ℕ} {from : Place} → Reads (number run) (record { at = at; fault = 0 }) tag from
-    → asked run at ≡ onward from (getD byTag tag none run)
-unfolding asked after
-tag-then run at {tag} {from} r = rw (← r .is) (by-fault (eqb (from .fault) 0))
-  where
-    by-fault : (good : Bool)
-        → after (cond good (read tag (from .at)) (fault (from .fault))) (λ t. getD byTag t none run) ≡ cond good (getD byTag tag none run (from .at)) (fault (from .fault))
-    by-fault true = refl
-    by-fault false = refl

@@ -1,18 +1,19 @@
 -- The calls of a run, each a line of docs/RUN.md, and how they are read. Assumes nothing.
 use Prim.Native.Nat.{ℕ}
 use mathlib.Core.List.{List, [], _∷_}
-use lib.ListN.{getD, replicate}
-use lib.Ieee.{Float, binary32, ofBits}
+use lib.Ieee.{Float}
 use Rattle.codes.specs.declared.TransportCodes.{TransportCodes}
 use Rattle.codes.specs.declared.RestartCodes.{RestartCodes}
 use Rattle.codes.specs.declared.ShapeCodes.{ShapeCodes}
 use Rattle.codes.specs.declared.PathCodes.{PathCodes}
 use Rattle.calls.specs.Calls.{Call}
 use Rattle.calls.specs.Calls as Calls
-use Rattle.fields.specs.Parser.{Parser, fault, badNumber, _then_, done}
+use Rattle.fields.specs.Parser.{Parser, _then_, done}
 use Rattle.fields.specs.Fields.{number, upTo, f32}
 use Rattle.runs.specs.Records.{settings, transport, restart}
 use Rattle.runs.specs.Curves.{shape, path}
+use Rattle.outputs.specs.Numbers.{sevens}
+use Rattle.outputs.specs.Output.{tagged}
 
 -- a call on the player, or one that evaluates a shape, a path or the legs of a path
 pub data Asked : Type 0 where
@@ -20,13 +21,6 @@ pub data Asked : Type 0 where
   shapeAt : ShapeCodes → Float → Asked
   pathAt : PathCodes → Float → Asked
   legs : PathCodes → Asked
-
--- "before each block every element of both is 7.0 (bits 40e00000)"
-abbrev pub seven : Float
-seven = ofBits binary32 0x40e0_0000
-
-abbrev pub sevens : ℕ → List Float
-sevens n = replicate n seven
 
 -- tag 0
 unfoldable pub settingsCall : Parser Asked
@@ -73,13 +67,9 @@ pathAtCall = path then λ c. f32 then λ t. done (pathAt c t)
 unfoldable pub legsCall : Parser Asked
 legsCall = path then λ c. done (legs c)
 
--- a tag of no call
-abbrev pub none : Parser Asked
-none run at = fault badNumber
-
 -- each at its tag
 unfoldable pub byTag : List (Parser Asked)
 byTag = settingsCall ∷ shapeCall ∷ pathCall ∷ busCall ∷ phaseCall ∷ blockCall ∷ shapeAtCall ∷ pathAtCall ∷ legsCall ∷ []
 
-unfoldable pub asked : Parser Asked
-asked = number then λ tag. getD byTag tag none
+abbrev pub asked : Parser Asked
+asked = tagged byTag

@@ -1,13 +1,12 @@
 -- What a call of a run gives, as numbers, and the player after it. Assumes nothing.
 use Prim.Native.Nat.{ℕ}
-use mathlib.Core.Bool.{Bool, cond}
+use mathlib.Core.Bool.{cond}
 use mathlib.Core.List.{List, [], _∷_}
 use lib.Dec.{eqb}
 use lib.ListN.{take}
 use lib.Ieee.{Float}
 use Rattle.codes.specs.declared.TransportCodes.{TransportCodes}
 use Rattle.codes.specs.declared.RestartCodes.{RestartCodes}
-use Rattle.questions.specs.Answers.{Answer}
 use Rattle.evaluate.specs.declared.Legs.{Legs}
 use Rattle.evaluate.specs.Values.{evaluatedShape, evaluatedPath, evaluatedLegs}
 use Rattle.calls.specs.State.{State}
@@ -15,14 +14,8 @@ use Rattle.calls.specs.Calls.{Call, settings, shape, path, bus, phase, block, a
 use Rattle.player.specs.Promises.{finishedBy}
 use Rattle.player.specs.Readings.{phaseAnswer}
 use Rattle.replies.specs.Replies.{bitsOf, listed}
+use Rattle.outputs.specs.Numbers.{flagOf, answerNumbers}
 use Rattle.runner.specs.Asked.{Asked, call, shapeAt, pathAt, legs}
-
-abbrev pub flagOf : Bool → ℕ
-flagOf b = cond b 1 0
-
--- "its answer's number .. Then, where it is 0: the phase's bits for tag 4 .. the value's bits for tag 6; the bits of x and of y for tag 7"
-unfoldable pub answerNumbers : Answer → List ℕ
-answerNumbers a = a .number ∷ bitsOf (a .values)
 
 -- where the number is 0, "the count of legs and then their bits for tag 8"
 unfoldable pub legsNumbers : Legs → List ℕ

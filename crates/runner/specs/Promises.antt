@@ -1,30 +1,30 @@
 -- What the parts of the code promise. Assumes nothing.
-use Prim.Native.Nat.{ℕ, _+_, _≤_}
+use Prim.Native.Nat.{ℕ, _≤_}
 use mathlib.Core.Path.{_≡_}
-use mathlib.Core.Bool.{Bool, true, false, cond}
-use mathlib.Core.List.{List, [], _∷_, _++_}
+use mathlib.Core.Bool.{Bool, true, cond}
+use mathlib.Core.List.{List, [], _∷_}
 use lib.Dec.{eqb}
 use lib.ListN.{length, take}
-use Rattle.listlaws.specs.Over.{over}
 use Rattle.questions.specs.Answers.{Answer}
-use Rattle.number.specs.declared.Writing.{Writing}
-use Rattle.number.specs.declared.Writing.the-variants.{Next, NoRoom}
 use Rattle.fields.specs.declared.reader.Place.{Place}
 use Rattle.fields.specs.Parser.{Parsed, read, Parser}
 use Rattle.fields.specs.Places.{onward}
+use Rattle.outputs.specs.Numbers.{answerNumbers}
+use Rattle.outputs.specs.Output.{givenFrom}
+use Rattle.outputs.specs.Turns as outputs
+use Rattle.outputs.specs.Turns.{Following}
+use Rattle.calls.specs.State.{State}
 use Rattle.player.specs.declared.Player.{Player}
 use Rattle.player.specs.Player.{stateOf, Valid}
-use Rattle.replies.specs.Replies.{fitting}
 use Rattle.runner.specs.declared.Reply.{Reply}
 use Rattle.runner.specs.declared.Turn.{Turn}
 use Rattle.runner.specs.declared.values.Said.{Said}
 use Rattle.runner.specs.Asked.{Asked}
-use Rattle.runner.specs.Numbers.{answerNumbers}
-use Rattle.runner.specs.Output.{given, givenBy, make, givenFrom}
+use Rattle.runner.specs.Output.{make, players}
 
 -- what a call as it was read gives, and those behind it
 abbrev pub givenOf : Player → List ℕ → Parsed Asked → ℕ → List (List ℕ)
-givenOf p run a most = givenBy (stateOf p) (λ q. given most q run) a
+givenOf p = outputs.givenOf players (stateOf p)
 
 -- how many numbers a call gives before its lists of floats, by its answer
 abbrev pub howMany : ℕ → ℕ
@@ -44,9 +44,9 @@ pub record Says (a : Answer) (s : Said) : Type 0 where
 abbrev pub unchangedBy : Said → ℕ → Player → Reply
 unchangedBy s at p = record { numbers = s .numbers; count = s .count; at = at; going = true; player = p }
 
--- what a reply says of the calls from here on: its numbers, and, unless the run ends with it, what the calls behind it give
+-- what a reply says of the calls from here on
 abbrev pub replied : List ℕ → Reply → ℕ → List (List ℕ)
-replied run r most = take (r .count) (r .numbers) ∷ cond (r .going) (given most (stateOf (r .player)) run (r .at)) []
+replied run r = outputs.replied players run (take (r .count) (r .numbers)) (r .at) (r .going) (stateOf (r .player))
 
 -- the reply r to what gives the numbers `all`
 pub record Replies (run : List ℕ) (all : ℕ → List (List ℕ)) (r : Reply) : Type 0 where
@@ -63,22 +63,16 @@ RepliesTo q run from p r = Replies run (givenOf p run (onward from (q run))) r
 pub record Begins (run : List ℕ) (r : Reply) : Type 0 where
   pub long : length (r .numbers) ≡ 3
   pub short : r .count ≤ 3
-  pub given-is : givenFrom run (make run 0) ≡ replied run r (length run)
+  pub given-is : givenFrom players run (make run 0) ≡ replied run r (length run)
   pub valid : Valid (r .player)
 
--- the run goes on where the numbers were written, unless it ends with them
-abbrev pub turnOf : Writing → ℕ → ℕ → Bool → Player → Turn
-turnOf (Next after) place at going p = record { at = at; going = going; place = after; player = p }
-turnOf NoRoom place at going p = record { at = at; going = false; place = place; player = p }
+-- how it goes on, as the rules see it
+abbrev pub following : Turn → Following State
+following r = record { at = r .at; going = r .going; place = r .place; state = stateOf (r .player) }
 
--- A turn from the place `place` of x: the bytes that it wrote, and how the rest of the output follows from it.
+-- a turn from the place `place` of x
 pub record Turns (run : List ℕ) (all : ℕ → List (List ℕ)) (x : List ℕ) (place : ℕ) (r : Turn) (y : List ℕ) : Type 0 where
-  pub written : List ℕ
-  pub bytes : y ≡ over x place written
-  pub place-is : r .place ≡ place + length written
-  pub room : place ≤ length x → r .place ≤ length x
-  pub rest : (most : ℕ)
-      → fitting (length x) place (all most) ≡ written ++ cond (r .going) (fitting (length x) (r .place) (given most (stateOf (r .player)) run (r .at))) []
+  pub turned : outputs.Turns players run all x place (following r) y
   pub valid : Valid (r .player)
 
 -- a turn of a call that is read from the place `from` on
@@ -88,8 +82,3 @@ TurnsOn q run from p x place r y = Turns run (givenOf p run (onward from (q run)
 -- a turn of the call a, with the run's next call at `at`
 abbrev pub TurnsBy : Asked → ℕ → Player → List ℕ → ℕ → Turn → List ℕ → Type 0
 TurnsBy a at p x place r y = (run : List ℕ) → Turns run (givenOf p run (read a at)) x place r y
-
--- the calls from here on, written from the place `place` of x
-pub record Finishes (all : List (List ℕ)) (x : List ℕ) (place : ℕ) (r : ℕ) (y : List ℕ) : Type 0 where
-  pub place-is : r ≡ place + length (fitting (length x) place all)
-  pub bytes : y ≡ over x place (fitting (length x) place all)

@@ -21,9 +21,11 @@ use Rattle.fields.specs.Parser.{after, when}
 use Rattle.fields.specs.Fields.{number, below, f32}
 use Rattle.runs.specs.Records.{rate, span, smooth, settings}
 use Rattle.runs.specs.Curves.{kept, path}
-use Rattle.runner.specs.Asked.{busCall, legsCall, byTag, asked}
+use Rattle.outputs.specs.Output as generic
+use Rattle.outputs.specs.Output.{tagged, givenBy, given, givenFrom}
+use Rattle.runner.specs.Asked.{busCall, legsCall, byTag}
 use Rattle.runner.specs.Numbers.{callNumbers, legsNumbers, numbers}
-use Rattle.runner.specs.Output.{givenBy, given, make, givenFrom, output}
+use Rattle.runner.specs.Output.{make, output}
 
 -- settings whose codes and numbers are all 0, and the seed 0
 zeros : List ℕ
@@ -46,7 +48,7 @@ runs =
 -- points has no leg. The bus 16 is refused by question 9, and its answer needs room. The kind 5 is refused by question 1, and nothing behind it is read.
 outputs : map (λ c. output (c .0) (c .1)) runs
     ≡ (0xff ∷ 0x01 ∷ []) ∷ [] ∷ (0 ∷ []) ∷ (0 ∷ 0xff ∷ 0x01 ∷ []) ∷ (0 ∷ 0 ∷ 0 ∷ []) ∷ (0 ∷ 9 ∷ []) ∷ (0 ∷ []) ∷ (1 ∷ []) ∷ []
-unfolding zeros runs output fitting givenFrom make given givenBy asked byTag busCall legsCall numbers callNumbers legsNumbers evaluatedLegs givenPath pathOf segmentsOf answer questions busQuestions pathQuestions pathKnown pathFinite pathOnPaper everyKept every settingsQuestions firstNo settingsKnown settingsFinite settings rate span smooth path kept number below f32 when after readAt readFrom leading judged shortest numberOf Read.below bytesOf encoded groups ofBits
+unfolding zeros runs generic.output fitting givenFrom make given givenBy tagged byTag busCall legsCall numbers callNumbers legsNumbers evaluatedLegs givenPath pathOf segmentsOf answer questions busQuestions pathQuestions pathKnown pathFinite pathOnPaper everyKept every settingsQuestions firstNo settingsKnown settingsFinite settings rate span smooth path kept number below f32 when after readAt readFrom leading judged shortest numberOf Read.below bytesOf encoded groups ofBits
 outputs = refl
 
 -- two legs of three, and a refusal, whose number stands alone

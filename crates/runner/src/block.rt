@@ -11,9 +11,9 @@ use player::Player;
 ghost use mathlib.Core.Path.{_≡_};
 ghost use Prim.Native.Nat.{_≤_};
 ghost use lib.ListN.{length};
+ghost use Rattle.outputs.specs.Numbers.{flagOf, sevens};
 ghost use Rattle.player.specs.Player.{Valid};
-ghost use Rattle.runner.specs.Asked.{sevens, blockAsked, blockCall};
-ghost use Rattle.runner.specs.Numbers.{flagOf};
+ghost use Rattle.runner.specs.Asked.{blockAsked, blockCall};
 ghost use Rattle.runner.specs.Promises.{TurnsOn, TurnsBy};
 
 // The most elements of a buffer.

@@ -1,8 +1,8 @@
 // The exported function: a run's bytes in, and what its calls give out (docs/RUN.md). `output` of specs/Output.antt says what it writes.
 mod block;
+mod calling;
 mod edits;
 mod legs;
-mod turns;
 mod values;
 mod writing;
 
@@ -32,12 +32,12 @@ pub struct Turn {
 pub extern "C" fn lfo_run(run: &[u8], out: &mut [u8]) -> u64
     ensures { λ r. ⌜ Runs (now (run .entry)) (now (out .entry)) r (now (out .exit)) ⌝ }
 {
-    let r = turns::made(run);
+    let r = calling::made(run);
     let t = writing::write_reply(out, 0, r);
     let place = t.place;
     if t.going {
         let p = t.player;
-        return turns::calls(run, t.at, out, place, p) as u64;
+        return calling::calls(run, t.at, out, place, p) as u64;
     }
     place as u64
 }

@@ -8,8 +8,9 @@ ghost use mathlib.Core.Path.{_≡_};
 ghost use mathlib.Core.Bool.{true, false};
 ghost use Prim.Native.Nat.{_≤_};
 ghost use lib.ListN.{length};
-ghost use Rattle.runner.specs.Promises.{howMany, replyOf, replied, turnOf, Turns};
-ghost use Rattle.player.specs.Player.{Valid};
+ghost use Rattle.outputs.specs.Turns.{turnOf};
+ghost use Rattle.player.specs.Player.{stateOf, Valid};
+ghost use Rattle.runner.specs.Promises.{howMany, replyOf, replied, following, Turns};
 
 // How many numbers come before lists of floats: the answer, and where it is 0 one more.
 pub fn how_many(answer: u8) -> usize
@@ -49,7 +50,7 @@ pub fn malformed(p: Player) -> Reply
 
 // Where the run goes on after a call whose numbers were written at `place`, or had no room.
 pub fn turn_of(w: Writing, place: usize, at: usize, going: bool, p: Player) -> Turn
-    ensures { λ r. ⌜ r ≡ turnOf w place at going p ⌝ }
+    ensures { λ r. ⌜ (following r ≡ turnOf w place at going (stateOf p)) × (r .player ≡ p) ⌝ }
 {
     match w {
         Writing::Next(after) => Turn {

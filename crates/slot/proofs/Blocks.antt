@@ -10,6 +10,7 @@ use Rattle.shape.specs.declared.Loopback.{Loopback}
 use Rattle.shape.specs.declared.Loopback.the-variants as Loopback
 use Rattle.path.specs.declared.Path.{Path}
 use Rattle.clock.specs.declared.ready.Prepared.{Prepared}
+use Rattle.clock.specs.Block.{freeCount}
 use Rattle.clock.specs.Ready.{preparedOf}
 use Rattle.settings.specs.declared.choices.LfoType.{LfoType}
 use Rattle.settings.specs.declared.record.Settings.{Settings}
@@ -64,6 +65,9 @@ module _ (lfo : Lfo) (t : Transport) (f frames : ℕ)
   clocks-in : FreeIn f (ready .block .free) × ClockIn (f + frames) (ready .clock)
   clocks-in = frame.clock-in s (lfo .clock) t f frames 0 (i .settings-in) J (i .clock-in) short within (omega arith)
 
+  pub clock-small : freeCount (ready .block .free) < 2 ^ 63
+  clock-small = omega (arith, free-count-in (ready .block .free) f (clocks-in .0), within)
+
   pub clocked-in : LfoIn (f + frames) (clockedLfo lfo (ready .clock))
   clocked-in = record { settings-in = i .settings-in; shape-in = i .shape-in; path-in = i .path-in; buses-in = i .buses-in; clock-in = clocks-in .1 }
 
@@ -81,7 +85,7 @@ module _ (lfo : Lfo) (t : Transport) (f frames : ℕ)
           room-x = omega (arith, room-x);
           room-y = omega (arith, room-y);
           anchor-small = omega (arith, sample-count-in (v .anchor) f a, within);
-          clock-small = omega (arith, free-count-in (ready .block .free) f (clocks-in .0), within);
+          clock-small = clock-small;
         }
 
     pub voice-in : (at : Pending) → AnchorIn (f + frames) (partsVoice s q (ready .block) frames v at .anchor)

@@ -1,5 +1,5 @@
-//! `bench PROGRAM [ROUNDS]`: times `process_scalar` of the Rust source, one voice, against the Rattle program, in turns, and writes the least times
-//! with their ratio, and the ratio of the medians.
+//! `bench PLAYER ENSEMBLE [ROUNDS]`: times `process_scalar` of the Rust source, of one voice and of several, against the Rattle programs, in turns, and writes
+//! the least times with their ratio, and the ratio of the medians.
 #![allow(dead_code)]
 
 include!(concat!(env!("OUT_DIR"), "/source.rs"));
@@ -15,7 +15,8 @@ use std::io::Write;
 use std::process::{Command, Stdio};
 
 const FRAMES: usize = 512_000;
-const SIZES: [usize; 3] = [512, 64, 16];
+/// Voices and frames a block.
+const CASES: [(usize, usize); 9] = [(1, 512), (1, 64), (1, 16), (2, 512), (8, 512), (16, 512), (2, 64), (8, 64), (16, 64)];
 const ITEMS: [(&str, LfoType); 5] = [
     ("Drawn, default shape", LfoType::Drawn),
     ("Drawn, 16 bent points", LfoType::Drawn),
@@ -54,7 +55,7 @@ fn bent16() -> Vec<Point> {
         .collect()
 }
 
-fn bank(item: usize) -> LfoBank {
+fn bank(item: usize, voices: usize) -> LfoBank {
     let settings = Settings {
         kind: ITEMS[item].1,
         rate: Rate::Hz { hz: 5.0, x10: false },
@@ -65,31 +66,32 @@ fn bank(item: usize) -> LfoBank {
     if item == 1 {
         lfo.shape_mut().set_points(&bent16());
     }
-    LfoBank::new(lfo, 1)
+    LfoBank::new(lfo, voices)
 }
 
-/// Nanoseconds a frame, the output not read.
-fn time(item: usize, size: usize) -> f64 {
-    let mut bank = bank(item);
+/// Nanoseconds a frame and voice, the output not read.
+fn time(item: usize, voices: usize, size: usize) -> f64 {
+    let mut bank = bank(item, voices);
     let transport = Transport::new(48000.0);
-    let (mut x, mut y) = ([0f32; 512], [0f32; 512]);
+    let (mut x, mut y) = ([0f32; 8192], [0f32; 8192]);
+    let blocks = FRAMES / (size * voices);
     let at = now();
-    for _ in 0..FRAMES / size {
+    for _ in 0..blocks {
         bank.process_scalar(black_box(&transport), size, &mut x, Some(&mut y));
         black_box((&x, &y));
     }
-    (now() - at) / FRAMES as f64
+    (now() - at) / (blocks * size * voices) as f64
 }
 
 /// A number made of every bit that came out.
-fn bits(item: usize, size: usize) -> u64 {
-    let mut bank = bank(item);
+fn bits(item: usize, voices: usize, size: usize) -> u64 {
+    let mut bank = bank(item, voices);
     let transport = Transport::new(48000.0);
-    let (mut x, mut y) = ([0f32; 512], [0f32; 512]);
+    let (mut x, mut y) = ([0f32; 8192], [0f32; 8192]);
     let mut h = 0u64;
-    for _ in 0..FRAMES / size {
+    for _ in 0..FRAMES / (size * voices) {
         bank.process_scalar(&transport, size, &mut x, Some(&mut y));
-        for k in 0..size {
+        for k in 0..size * voices {
             let word = u64::from(x[k].to_bits()) << 32 | u64::from(y[k].to_bits());
             h = (h ^ word).rotate_left(7).wrapping_add(0x9E37_79B9_7F4A_7C15);
         }
@@ -97,9 +99,11 @@ fn bits(item: usize, size: usize) -> u64 {
     h
 }
 
-fn ours(program: &str, item: usize, size: usize, bits: bool) -> String {
+/// By the program for one voice or the one for several.
+fn ours(programs: &[String], item: usize, voices: usize, size: usize, bits: bool) -> String {
+    let program = &programs[usize::from(voices > 1)];
     let mut child = Command::new(program).stdin(Stdio::piped()).stdout(Stdio::piped()).spawn().expect("the Rattle program");
-    writeln!(child.stdin.take().unwrap(), "{item} {FRAMES} {size} {}", u8::from(bits)).unwrap();
+    writeln!(child.stdin.take().unwrap(), "{item} {FRAMES} {size} {} {voices}", u8::from(bits)).unwrap();
     String::from_utf8(child.wait_with_output().unwrap().stdout).unwrap().trim().to_string()
 }
 
@@ -111,30 +115,30 @@ fn least_and_median(mut v: Vec<f64>) -> (f64, f64) {
 
 fn main() {
     let args: Vec<String> = std::env::args().collect();
-    let program = args.get(1).expect("bench PROGRAM [ROUNDS]");
-    let rounds: usize = args.get(2).map_or(31, |n| n.parse().unwrap());
+    let programs = args.get(1..3).expect("bench PLAYER ENSEMBLE [ROUNDS]");
+    let rounds: usize = args.get(3).map_or(31, |n| n.parse().unwrap());
     for item in 0..ITEMS.len() {
-        for size in SIZES {
-            assert_eq!(ours(program, item, size, true), format!("{:016x}", bits(item, size)), "{} differs", ITEMS[item].0);
+        for (voices, size) in CASES {
+            assert_eq!(ours(programs, item, voices, size, true), format!("{:016x}", bits(item, voices, size)), "{} differs, {voices} voices", ITEMS[item].0);
         }
     }
-    let mut times = vec![vec![(Vec::new(), Vec::new()); ITEMS.len()]; SIZES.len()];
+    let mut times = vec![vec![(Vec::new(), Vec::new()); ITEMS.len()]; CASES.len()];
     let mut progress = Progress::new();
     for round in 0..rounds {
         progress.show(|| format!("bench: {round} of {rounds} rounds"));
-        for (s, size) in SIZES.into_iter().enumerate() {
+        for (c, (voices, size)) in CASES.into_iter().enumerate() {
             for item in 0..ITEMS.len() {
-                times[s][item].0.push(time(item, size));
-                times[s][item].1.push(ours(program, item, size, false).parse::<f64>().unwrap() / 1000.0);
+                times[c][item].0.push(time(item, voices, size));
+                times[c][item].1.push(ours(programs, item, voices, size, false).parse::<f64>().unwrap() / 1000.0);
             }
         }
     }
-    println!("| item | frames a block | Rust | ours | ratio | of medians |\n|---|---|---|---|---|---|");
-    for (s, size) in SIZES.into_iter().enumerate() {
+    println!("| item | voices | frames a block | Rust | ours | ratio | of medians |\n|---|---|---|---|---|---|---|");
+    for (c, (voices, size)) in CASES.into_iter().enumerate() {
         for item in 0..ITEMS.len() {
-            let (rust, rust_median) = least_and_median(times[s][item].0.clone());
-            let (ours, our_median) = least_and_median(times[s][item].1.clone());
-            println!("| {} | {size} | {rust:.1} | {ours:.1} | {:.2} | {:.2} |", ITEMS[item].0, ours / rust, our_median / rust_median);
+            let (rust, rust_median) = least_and_median(times[c][item].0.clone());
+            let (ours, our_median) = least_and_median(times[c][item].1.clone());
+            println!("| {} | {voices} | {size} | {rust:.1} | {ours:.1} | {:.2} | {:.2} |", ITEMS[item].0, ours / rust, our_median / rust_median);
         }
     }
 }

@@ -1,6 +1,7 @@
 -- `lfo_run` meets its contract. Assumes nothing.
 use borrow.Author.Needs.{needs}
-use Rattle.runner.proofs.Turning.{start-room, runs-short, runs-on}
+use Rattle.outputs.proofs.Turning.{start-room, runs-short, runs-on}
+use Rattle.runner.specs.Output.{players}
 use Rattle.runner.proofs.lfo_run.Statement.{statement}
 use Rattle.runner.proofs.lfo_run.Tie as tie
 
@@ -11,18 +12,18 @@ calls-requires : tie.Need-calls-requires
 calls-requires c κs =
     let w = c .before .before .before .before .before in
     let t = w .write-reply .ensures _ in
-    (t .valid, start-room (w .before .before .made .ensures) t)
+    (t .valid, start-room players (w .before .before .made .ensures .given-is) (t .turned))
 
 returns : tie.Need-returns
 returns c =
     let w = c .before .before .before .before .before .before .before .before in
     let made = w .before .before .made .ensures in
-    runs-on made (w .write-reply .ensures _) (c .before .before .before .before .before .if1 .taken) (c .before .before .calls .ensures)
+    runs-on players (made .given-is) (w .write-reply .ensures _ .turned) (c .before .before .before .before .before .if1 .taken) (c .before .before .calls .ensures)
 
 returns-2 : tie.Need-returns-2
 returns-2 c =
     let w = c .before .before .before in
-    runs-short (w .before .before .made .ensures) (w .write-reply .ensures _) (c .if1 .left)
+    runs-short players (w .before .before .made .ensures .given-is) (w .write-reply .ensures _ .turned) (c .if1 .left)
 
 pub lfo-run-spec : {M : Type 1} → statement M
 lfo-run-spec = tie.close (tie.spec (λ c κs. search needs) write-reply-requires calls-requires (λ c. search needs) returns (λ c. search needs) returns-2)

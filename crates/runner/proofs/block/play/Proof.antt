@@ -33,8 +33,7 @@ returns c =
     let r = c .before .before .before .before .before .before .before .before .before .before .before .before .before .before .before .before in
     let s = r .before .before .before .before .before .before in
     let a = s .args in
-    λ run. rw (c .turn-of .ensures)
-    (block-turned
+    λ run. block-turned
     (r .play .ensures)
     (c .before .before .before .before .before .before .before .before .how-many .ensures)
     (c .before .before .before .before .before .before .before .before .before .flag .ensures)
@@ -42,7 +41,8 @@ returns c =
     (now (a .out))
     (a .place)
     (a .at)
-    (c .before .before .before .write-lists .ensures))
+    (c .before .before .before .write-lists .ensures)
+    (c .turn-of .ensures)
 
 pub play-spec : {M : Type 1} → statement M
 play-spec =

@@ -2,7 +2,7 @@
 use native.Mathlib.Omega.{arith}
 use borrow.Author.Needs.{needs}
 use lib.ListN.{length-take}
-use Rattle.runner.proofs.Playing.{sevens-long, sevens-first}
+use Rattle.outputs.proofs.Buffers.{sevens-long, sevens-first}
 use Rattle.runner.proofs.block.play_anew.Statement.{statement}
 use Rattle.runner.proofs.block.play_anew.Tie as tie
 

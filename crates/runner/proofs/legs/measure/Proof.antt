@@ -42,8 +42,7 @@ returns c =
     let r = c .before .before .before .before .before .before .before .before .before .before .before in
     let s = r .before .before in
     let a = s .args in
-    λ run. rw (c .turn-of .ensures)
-    (legs-turned
+    λ run. legs-turned
     (a .c)
     (r .evaluate-legs .ensures)
     (a .p)
@@ -53,7 +52,8 @@ returns c =
     (now (a .out))
     (a .place)
     (a .at)
-    (c .before .before .before .write-lists .ensures))
+    (c .before .before .before .write-lists .ensures)
+    (c .turn-of .ensures)
 
 pub measure-spec : {M : Type 1} → statement M
 measure-spec =

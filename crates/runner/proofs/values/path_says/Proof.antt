@@ -3,7 +3,7 @@ use mathlib.Core.Path.{refl}
 use native.Mathlib.Omega.{arith}
 use borrow.Author.Needs.{needs}
 use Rattle.evaluate.specs.Values.{pathResultAnswer}
-use Rattle.runner.specs.Numbers.{answerNumbers}
+use Rattle.outputs.specs.Numbers.{answerNumbers}
 use Rattle.runner.proofs.values.path_says.Statement.{statement}
 use Rattle.runner.proofs.values.path_says.Tie as tie
 

@@ -20,9 +20,9 @@ returns : tie.Need-returns
 returns c =
     let s = c .before .before .before .before .before .before .before .before .before in
     let a = s .args in
-    λ run. rw (c .turn-of .ensures)
-    (turned run (now (a .out)) (a .place) (take (a .r .count) (a .r .numbers)) (a .r .at) (a .r .going) (a .r .player) (s .pre .2)
-    (c .before .before .before .write-numbers .ensures))
+    λ run. turned run (now (a .out)) (a .place) (take (a .r .count) (a .r .numbers)) (a .r .at) (a .r .going) (a .r .player) (s .pre .2)
+    (c .before .before .before .write-numbers .ensures)
+    (c .turn-of .ensures)
 
 pub write-reply-spec : {M : Type 1} → statement M
 write-reply-spec =

@@ -1,0 +1,3 @@
+pub mod Interleave
+pub mod Places
+pub mod Serving

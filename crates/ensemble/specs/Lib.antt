@@ -1,0 +1,2 @@
+pub mod Ensemble
+pub mod Pages

@@ -1,0 +1,9 @@
+pub mod Ensembles
+pub mod Blocks
+pub mod Questions
+pub mod Calls
+pub mod Heard
+pub mod Apart
+pub mod Requests
+pub mod AsPlayer
+pub mod Vectors

@@ -1,0 +1,9 @@
+pub mod Voices
+pub mod Outcomes
+pub mod Makings
+pub mod Sets
+pub mod Triggers
+pub mod Readings
+pub mod Blocks
+pub mod Serving
+pub mod Apart

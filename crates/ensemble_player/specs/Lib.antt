@@ -1,0 +1,4 @@
+pub mod Ensembles
+pub mod Promises
+pub mod Readings
+pub mod Plays

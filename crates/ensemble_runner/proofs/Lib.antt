@@ -1,0 +1,5 @@
+pub mod Turning
+pub mod Readings
+pub mod Replying
+pub mod Playing
+pub mod Enough
