@@ -33,7 +33,7 @@ SharedValues =
 abbrev pub AllAlike : Type 0
 AllAlike = (e : EnsembleState) (calls : List Call) (v w : ℕ) → v < length (e .voices) → w < length (e .voices) → plays true v e calls ≡ plays true w e calls
 
--- "one voice serves all": with shared on no call moves a voice's own record, and with shared off none moves the serving voice's; either goes on later from where it stood
+-- "one voice serves all": with shared on no call moves the voice of a record, and with shared off none moves the serving one; either goes on later from where it stood. A block clears the requests of both
 abbrev pub Idle : Type 0
 Idle =
     (e : EnsembleState) (c : Call)

@@ -9,7 +9,7 @@ ghost use Rattle.questions.specs.Questions.{firstNo};
 ghost use Rattle.ensemble_calls.specs.Questions.{pageQuestions, makeQuestions, triggerQuestions, voicePhaseQuestions, playQuestions};
 
 // Setting the settings, with the code of shared.
-pub fn page_answer(c: SettingsCodes, shared: u64) -> u8
+fn page_answer(c: SettingsCodes, shared: u64) -> u8
     ensures { λ r. ⌜ r ≡ firstNo (pageQuestions c shared) ⌝ }
 {
     if shared >= 2 {

@@ -1,4 +1,4 @@
--- Each call takes a byte or more, so `output` looks at all of them: `enough` of turns/proofs/Enough.antt. Assumes nothing.
+-- Each call takes a byte or more, so `output` looks at all of them: `enough` of outputs/proofs/Enough.antt. Assumes nothing.
 use Prim.Native.Nat.{ℕ, zero, suc, _+_, _≤_}
 use mathlib.Core.Path.{_≡_}
 use mathlib.Core.List.{List}
