@@ -107,18 +107,36 @@ fn rates(list: &mut List) {
     }
 }
 
+fn lasting(division: u8) -> Span {
+    Span::Synced(Division::new(division).expect("a division"))
+}
+
+// Each division in bars of three and of five beats: as a rate, which stays below half a cycle a sample, and as a fade in.
+fn divisions(list: &mut List) {
+    for i in 0..15 {
+        let s = Settings {
+            rate: synced(i, Feel::Straight),
+            fade_in: lasting(i),
+            ..Settings::default()
+        };
+        for beats_per_bar in [3.0, 5.0] {
+            let w = Written::new(&s).at(|t| (t.tempo, t.beats_per_bar) = (60.0, beats_per_bar));
+            add(list, w.block(4, Present::Yes(1)));
+        }
+    }
+}
+
 fn spans(list: &mut List) {
-    let of = |d: u8| Span::Synced(Division::new(d).expect("a division"));
     for (delay, fade_in) in [
         (Span::Seconds(0.002), Span::Seconds(0.004)),
         (Span::Off, Span::Seconds(0.0034)),
         (Span::Seconds(0.0025), Span::Off),
         (Span::Seconds(-1.0), Span::Seconds(-0.0)),
         (Span::Seconds(40.0), Span::Off),
-        (of(13), of(14)),
-        (of(12), Span::Off),
-        (Span::Off, of(6)),
-        (Span::Off, of(0)),
+        (lasting(13), lasting(14)),
+        (lasting(12), Span::Off),
+        (Span::Off, lasting(6)),
+        (Span::Off, lasting(0)),
     ] {
         let s = Settings {
             delay,
@@ -772,6 +790,7 @@ pub fn runs(dir: &Path) {
     sheet(&mut list);
     kinds(&mut list);
     rates(&mut list);
+    divisions(&mut list);
     spans(&mut list);
     locked(&mut list);
     smoothing(&mut list);

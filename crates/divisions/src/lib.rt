@@ -1,4 +1,5 @@
-// The divisions of a synced rate as the syllabus prints them: fifteen lengths, each in bars or in beats.
+// The divisions of a synced rate as the syllabus prints them: a table of fifteen lengths, each in bars or in beats. It stands for the
+// arms of `Division::beats` in lfo/mod.rs.
 ghost use mathlib.Core.Path.{_≡_};
 ghost use Prim.Native.Nat.{min};
 ghost use Rattle.divisions.specs.Lengths.{noteLength, inBeats};
@@ -31,7 +32,7 @@ const NOTE_LENGTHS: [NoteLength; COUNT as usize] = [
     NoteLength::Beats(1.0 / 128.0),
 ];
 
-// The place of division `index`: what is past the last counts as the last.
+// Where division `index` stands in the table: what is past the last counts as the last.
 fn place(index: u8) -> usize
     ensures { λ r. ⌜ r ≡ min index 14 ⌝ }
 {
@@ -42,6 +43,7 @@ fn place(index: u8) -> usize
     }
 }
 
+// How long division `index` lasts.
 pub fn note_length(index: u8) -> NoteLength
     ensures { λ r. ⌜ r ≡ noteLength index ⌝ }
 {

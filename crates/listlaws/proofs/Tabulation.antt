@@ -44,6 +44,6 @@ module _ {A : Type 0} (f : ℕ → A) where
         let l : length (tabulate f n) ≡ n = length-tabulate n in
         List·getD-append (tabulate f n) _ d i (omega arith) ∙ getD-tabulate n i d h
 
--- one computed test of a rule: functions with the same first n values agree below n
+-- functions with the same first n values agree at each place below n
 pub tabulate-agree : {A : Type 0} (f g : ℕ → A) (n : ℕ) → tabulate f n ≡ tabulate g n → (k : ℕ) → k < n → f k ≡ g k
 tabulate-agree {A} f g n e k h = sym (getD-tabulate f n k (f k) h) ∙ ap (λ (l : List A). getD l k (f k)) e ∙ getD-tabulate g n k (f k) h
