@@ -13,42 +13,49 @@ use Rattle.divisions.specs.declared.NoteLength.{NoteLength}
 use Rattle.divisions.specs.declared.NoteLength.the-variants.{Bars, Beats}
 use Rattle.divisions.specs.Lengths.{noteLengths, noteLength, LengthsRule}
 
--- the rule of entry k
-abbrev ruled : ℕ → NoteLength
-ruled k = cond (leb k 5) (Bars (f64 (2 ^ (5 - k)) 1)) (cond (leb k 13) (Beats (f64 2 (2 ^ (k - 6)))) (Beats (f64 1 128)))
+-- ---- what a test of the whole table shows of each entry
 
-same : NoteLength → NoteLength → Bool
-same (Bars m) (Bars n) = sameNumber m n
-same (Beats m) (Beats n) = sameNumber m n
-same (Bars m) (Beats n) = false
-same (Beats m) (Bars n) = false
+unfoldable pub sameLength : NoteLength → NoteLength → Bool
+sameLength (Bars m) (Bars n) = sameNumber m n
+sameLength (Beats m) (Beats n) = sameNumber m n
+sameLength (Bars m) (Beats n) = false
+sameLength (Beats m) (Bars n) = false
 
-test : ℕ → NoteLength → Bool
-test k n = same n (ruled k)
-
-tested : T (everywhere test 0 noteLengths)
-unfolding test same sameNumber noteLengths round
-tested = tt
-
-same-is : (m n : NoteLength) → T (same m n) → m ≡ n
-unfolding same
-same-is (Bars m) (Bars n) h = ap Bars (same-number m n h)
-same-is (Beats m) (Beats n) h = ap Beats (same-number m n h)
-same-is (Bars m) (Beats n) h = absurd h
-same-is (Beats m) (Bars n) h = absurd h
-
-entry : (k i : ℕ) → min k 14 ≡ i → i < 15 → noteLength k ≡ ruled i
-unfolding noteLength test
-entry k i e h = rw e (same-is _ _ (everywhere-at test (Bars nan) noteLengths tested i (unfold noteLengths in h)))
+same-length : (m n : NoteLength) → T (sameLength m n) → m ≡ n
+unfolding sameLength
+same-length (Bars m) (Bars n) h = ap Bars (same-number m n h)
+same-length (Beats m) (Beats n) h = ap Beats (same-number m n h)
+same-length (Bars m) (Beats n) h = absurd h
+same-length (Beats m) (Bars n) h = absurd h
 
 pub past-the-last : (k : ℕ) → 14 ≤ k → noteLength k ≡ noteLength 14
 unfolding noteLength
 past-the-last k h = let e : min k 14 ≡ 14 = omega arith in rw e
 
+module _ (f : ℕ → NoteLength) where
+  -- entry 0 is f 0, entry 1 is f 1, ..
+  abbrev pub entriesAre : Bool
+  entriesAre = everywhere (λ k n. sameLength n (f k)) 0 noteLengths
+
+  pub entry-is : T entriesAre → (k : ℕ) → k < 15 → noteLength k ≡ f k
+  unfolding noteLength
+  entry-is t k h =
+      let e : min k 14 ≡ k = omega arith in
+      rw e (same-length _ _ (everywhere-at (λ k n. sameLength n (f k)) (Bars nan) noteLengths t k (unfold noteLengths in h)))
+
+-- ---- document 01's list
+
+abbrev ruled : ℕ → NoteLength
+ruled k = cond (leb k 5) (Bars (f64 (2 ^ (5 - k)) 1)) (cond (leb k 13) (Beats (f64 2 (2 ^ (k - 6)))) (Beats (f64 1 128)))
+
+tested : T (entriesAre ruled)
+unfolding sameLength sameNumber noteLengths round
+tested = tt
+
 pub lengths-rule : LengthsRule
 lengths-rule =
     record {
-      bars = λ k h. entry k k (omega arith) (omega arith) ∙ rw (le-leb k 5 h);
-      beats = λ k l h. entry k k (omega arith) (omega arith) ∙ rw (lt-leb k 5 (omega arith), le-leb k 13 h);
-      last = λ k h. entry k 14 (omega arith) (omega arith);
+      bars = λ k h. entry-is ruled tested k (omega arith) ∙ rw (le-leb k 5 h);
+      beats = λ k l h. entry-is ruled tested k (omega arith) ∙ rw (lt-leb k 5 (omega arith), le-leb k 13 h);
+      last = λ k h. past-the-last k h ∙ entry-is ruled tested 14 (omega arith);
     }

@@ -1,6 +1,6 @@
 -- Arrays that are filled from the front, one element a turn. Assumes nothing.
-use mathlib.Core.Path.{_≡_, refl, sym, ap, _∙_}
-use mathlib.Core.List.{List, [], _∷_, _++_}
+use mathlib.Core.Path.{_≡_, refl, sym, _∙_}
+use mathlib.Core.List.{[], _∷_, _++_}
 use Prim.Native.Nat.{ℕ, zero, suc, _-_, _<_}
 use mathlib.Core.Logic.{inl, inr}
 use native.Mathlib.Nat.{eq-or-lt-of-le, le-of-suc-le-suc}
@@ -43,7 +43,3 @@ module _ {A : Type 0} (f : ℕ → A) where
     getD-padded n i d h =
         let l : length (tabulate f n) ≡ n = length-tabulate n in
         List·getD-append (tabulate f n) _ d i (omega arith) ∙ getD-tabulate n i d h
-
--- functions with the same first n values agree at each place below n
-pub tabulate-agree : {A : Type 0} (f g : ℕ → A) (n : ℕ) → tabulate f n ≡ tabulate g n → (k : ℕ) → k < n → f k ≡ g k
-tabulate-agree {A} f g n e k h = sym (getD-tabulate f n k (f k) h) ∙ ap (λ (l : List A). getD l k (f k)) e ∙ getD-tabulate g n k (f k) h
