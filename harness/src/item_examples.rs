@@ -233,7 +233,8 @@ fn name(field: Field) -> &'static str {
     }
 }
 
-fn row(name: &str, bytes: &[u8], value: &str) -> String {
+/// A row: a field, its bytes, its value.
+pub fn row(name: &str, bytes: &[u8], value: &str) -> String {
     let bytes: Vec<String> = bytes.iter().map(|b| format!("{b:02x}")).collect();
     format!("| {name} | {} | {value} |", bytes.join(" "))
 }
@@ -289,7 +290,8 @@ fn is_of_point(field: Field) -> bool {
         || (Field::PathX as usize..=Field::PathYDepth as usize).contains(&at)
 }
 
-fn table(record: &[u8]) -> String {
+/// The rows of a record under their head.
+pub fn table(record: &[u8]) -> String {
     let head = "| field | bytes | value |\n|---|---|---|";
     format!("{head}\n{}\n", rows(record).join("\n"))
 }

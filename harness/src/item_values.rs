@@ -238,8 +238,8 @@ fn bits_of(field: Field) -> u32 {
     }
 }
 
-// A number in a longer form: groups of 0 behind its last.
-fn longer(v: &mut Values, n: u64) -> Vec<u8> {
+/// A number in a longer form: groups of 0 behind its last.
+pub fn longer(v: &mut Values, n: u64) -> Vec<u8> {
     let mut bytes = bytes_of(&[n]);
     for _ in 0..v.of(&[1, 1, 2, 9, 12]) {
         let last = bytes.len() - 1;
@@ -249,8 +249,8 @@ fn longer(v: &mut Values, n: u64) -> Vec<u8> {
     bytes
 }
 
-// A number of more bits than the field has.
-fn larger(v: &mut Values, n: u64, bits: u32) -> Vec<u8> {
+/// A number of more bits than the field has.
+pub fn larger(v: &mut Values, n: u64, bits: u32) -> Vec<u8> {
     if bits < 64 {
         let over = 1u64 << bits;
         return bytes_of(&[v.of(&[over, over | n, over * 2, over | 1 << 33, u64::MAX])]);

@@ -81,6 +81,16 @@ pub const CAUSES: [Cause; 9] = [
     Cut, Long, Large, NoChoice, Count, NotFinite, Clamped, Moved, Left,
 ];
 
+impl Cause {
+    pub fn number(self) -> u64 {
+        match self {
+            Cut => 12,
+            Left => 14,
+            _ => 13,
+        }
+    }
+}
+
 /// The first fault of a record, with the field that it is in; bytes left over count as behind the last field.
 #[derive(Clone, Copy, Debug, PartialEq)]
 pub struct Fault {
@@ -90,11 +100,7 @@ pub struct Fault {
 
 impl Fault {
     pub fn number(self) -> u64 {
-        match self.cause {
-            Cut => 12,
-            Left => 14,
-            _ => 13,
-        }
+        self.cause.number()
     }
 }
 
@@ -109,6 +115,25 @@ pub struct Placed {
     pub value: u64,
 }
 
+/// The number of at most so many bits at the front of some bytes, and how many it takes. It is judged once its last byte is read: a number that never ends
+/// is cut short, however long it is.
+pub fn front_number(bytes: &[u8], bits: u32) -> Result<(u64, usize), Cause> {
+    let last = bytes.iter().position(|b| *b < 128).ok_or(Cut)?;
+    if last > 0 && bytes[last] == 0 {
+        return Err(Long);
+    }
+    // ten groups hold 64 bits, and the last group is not 0
+    if last > 9 {
+        return Err(Large);
+    }
+    let groups = bytes[..=last].iter().enumerate();
+    let value = groups.fold(0u128, |n, (i, b)| n | u128::from(b & 127) << (7 * i));
+    match value >> bits {
+        0 => Ok((value as u64, last + 1)),
+        _ => Err(Large),
+    }
+}
+
 struct Reader<'a> {
     bytes: &'a [u8],
     at: usize,
@@ -117,26 +142,10 @@ struct Reader<'a> {
 }
 
 impl Reader<'_> {
-    // Judged once its last byte is read: a number that never ends is cut short, however long it is.
     fn number(&mut self, field: Field, bits: u32) -> Got<u64> {
-        let rest = &self.bytes[self.at..];
-        let fault = |cause| Err(Fault { cause, field });
-        let Some(last) = rest.iter().position(|b| *b < 128) else {
-            return fault(Cut);
-        };
-        if last > 0 && rest[last] == 0 {
-            return fault(Long);
-        }
-        // ten groups hold 64 bits, and the last group is not 0
-        if last > 9 {
-            return fault(Large);
-        }
-        let groups = rest[..=last].iter().enumerate();
-        let value = groups.fold(0u128, |n, (i, b)| n | u128::from(b & 127) << (7 * i));
-        if value >> bits != 0 {
-            return fault(Large);
-        }
-        let (at, end, value) = (self.at, self.at + last + 1, value as u64);
+        let front = front_number(&self.bytes[self.at..], bits);
+        let (value, size) = front.map_err(|cause| Fault { cause, field })?;
+        let (at, end) = (self.at, self.at + size);
         self.at = end;
         if let Some(list) = &mut self.placed {
             list.push(Placed {
@@ -367,14 +376,29 @@ impl Read {
     }
 }
 
-pub fn read(record: &[u8]) -> Read {
-    match parsed(record) {
+fn asked(got: Got<Item>) -> Read {
+    match got {
         Err(fault) => Read::Fault(fault),
         Ok(item) => match questions::item(&item) {
             0 => Read::Item(item),
             number => Read::Refused(number, item),
         },
     }
+}
+
+pub fn read(record: &[u8]) -> Read {
+    asked(parsed(record))
+}
+
+/// What the record at the front of some bytes gives, and how many it takes up to its end or its fault. Others may follow.
+pub fn read_front(bytes: &[u8]) -> (Read, usize) {
+    let mut reader = Reader {
+        bytes,
+        at: 0,
+        placed: None,
+    };
+    let got = reader.item();
+    (asked(got), reader.at)
 }
 
 // ---- writing

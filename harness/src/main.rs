@@ -6,6 +6,7 @@
 //!     harness/run compare runs 1000000 11 300000000
 //!     harness/run compare ensembles 1000000 1 300000000
 //!     harness/run compare items 10000000 1
+//!     harness/run compare sittings 100000 1
 //!     harness/run vectors chaos
 //!
 //! Only a release build compares: Rust leaves open which zero `max` gives for −0 and 0, and a debug build gives another one than a release
@@ -36,6 +37,7 @@ mod item_values;
 mod items;
 mod legs;
 mod player;
+mod programs;
 mod progress;
 mod questions;
 mod reading;
@@ -45,6 +47,14 @@ mod run;
 mod runs;
 mod shrunk;
 mod simd;
+mod sitting_compare;
+mod sitting_examples;
+mod sitting_faults;
+mod sitting_figures;
+mod sitting_stored;
+mod sitting_stored_faults;
+mod sitting_values;
+mod sittings;
 mod spoiled;
 mod stored;
 mod stored_items;
@@ -69,15 +79,18 @@ const SUBJECTS: [(&str, Compare, u64); 4] = [
 ];
 
 const USAGE: &str = "usage: harness/run vectors chaos|curves
-       harness/run vectors runs|ensembles DIR
+       harness/run vectors runs|ensembles|sittings DIR
        harness/run show [ensemble] BYTES
        harness/run items examples DIR
        harness/run items show FILE
+       harness/run sittings examples DIR
+       harness/run sittings show FILE
        harness/run compare SUBJECT|all [COUNT] [SEED]
        harness/run compare runs [COUNT] [SEED] [FRAMES]
        harness/run compare runs ends [COUNT] [SEED]
        harness/run compare ensembles [COUNT] [SEED] [VALUES]
        harness/run compare items [COUNT] [SEED]
+       harness/run compare sittings [COUNT] [SEED]
        harness/run compare bend long
        harness/run compare legs long
        harness/run compare runs long
@@ -85,7 +98,8 @@ SUBJECT is floats, bend, legs or choices; COUNT the least number of values of ea
 BYTES are those of a run, of a player or of an ensemble, in hexadecimal.
 Of items, COUNT is the least number of records; `items show` writes the fields of the record in FILE beside its bytes.
 Of runs, COUNT is the least number of runs and FRAMES of frames; run i has the seed SEED + i.
-Of ensembles the same, VALUES being the least number of values of x and y.";
+Of ensembles the same, VALUES being the least number of values of x and y.
+Of sittings, COUNT is their number and sitting i has the seed SEED + i; `vectors sittings` writes to two folders of DIR, and `sittings show` is as `items show`.";
 
 /// The runs of a short comparison.
 const RUNS: u64 = 100_000;
@@ -98,6 +112,10 @@ const ENSEMBLES: u64 = 30_000;
 
 /// The records of a short comparison.
 const RECORDS: u64 = 1_000_000;
+
+/// The sittings of a comparison of them alone, and of one of all subjects.
+const SITTINGS: u64 = 5_000;
+const FEW_SITTINGS: u64 = 2_000;
 
 fn number(word: &str) -> u64 {
     word.replace('_', "").parse().unwrap_or_else(|_| usage())
@@ -138,6 +156,7 @@ fn compare(subject: &str, count: Option<u64>, seed: u64) -> bool {
         right &= runs(&[]);
         right &= ends(&[]);
         right &= ensembles(&[]);
+        right &= sittings(&[], FEW_SITTINGS);
     }
     println!(
         "{compared} values compared: {}",
@@ -213,6 +232,15 @@ fn items(words: &[&str]) -> bool {
     is_release() && item_compare::compare(word(0, RECORDS), word(1, 1))
 }
 
+/// Compares sittings: COUNT, SEED.
+fn sittings(words: &[&str], count: u64) -> bool {
+    if words.len() > 2 {
+        usage();
+    }
+    let word = |i: usize, other: u64| words.get(i).map_or(other, |w| number(w));
+    is_release() && sitting_compare::compare(word(0, count), word(1, 1))
+}
+
 /// Shows the run of some bytes.
 fn shown(hex: &str, show: fn(&[u8])) -> bool {
     show(&shrunk::unhex(hex).unwrap_or_else(|| usage()));
@@ -241,6 +269,7 @@ fn main() {
         }
         ["vectors", "runs", dir] => stored_runs(dir, stored::runs),
         ["vectors", "ensembles", dir] => stored_runs(dir, ensemble_stored::runs),
+        ["vectors", "sittings", dir] => stored_runs(dir, sitting_stored::sittings),
         ["show", hex] => shown(hex, shrunk::show),
         ["show", "ensemble", hex] => shown(hex, ensembles::show),
         ["compare", "bend", "long"] => every_curve(),
@@ -250,8 +279,11 @@ fn main() {
         ["compare", "runs", ref rest @ ..] => runs(rest),
         ["compare", "ensembles", ref rest @ ..] => ensembles(rest),
         ["compare", "items", ref rest @ ..] => items(rest),
+        ["compare", "sittings", ref rest @ ..] => sittings(rest, SITTINGS),
         ["items", "examples", dir] => item_examples::write(Path::new(dir)),
         ["items", "show", file] => item_examples::show(Path::new(file)),
+        ["sittings", "examples", dir] => sitting_examples::write(Path::new(dir)),
+        ["sittings", "show", file] => sitting_examples::show(Path::new(file)),
         ["compare", subject] => compare(subject, None, 1),
         ["compare", subject, count] => compare(subject, Some(number(count)), 1),
         ["compare", subject, count, seed] => compare(subject, Some(number(count)), number(seed)),

@@ -48,7 +48,7 @@ fn write(list: &mut List, item: &Item, number: u64) {
 }
 
 /// An item with everything in it: the drawn example with the path of the second.
-fn full() -> Item {
+pub fn full() -> Item {
     let [(_, drawn), (_, travelled), _] = item_examples::all();
     Item {
         path: travelled.path,
@@ -337,7 +337,7 @@ fn questions(list: &mut List) {
 }
 
 /// `full`, failing each of these questions.
-fn failing_all(numbers: &[u64]) -> Item {
+pub fn failing_all(numbers: &[u64]) -> Item {
     let mut item = full();
     for number in numbers {
         let (held, others) = failing(*number);

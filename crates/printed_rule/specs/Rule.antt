@@ -1,0 +1,43 @@
+-- The restart rule of what is printed: `RestartRule` of crate `restart`, of the lines of two sheets. It is proved in proofs/PrintedRule.antt. Assumes nothing.
+use Prim.Native.Nat.{ℕ, _+_, _<_}
+use mathlib.Core.Path.{_≡_}
+use mathlib.Core.List.{List, _++_}
+use lib.ListN.{length, getD, drop}
+use lib.Ieee.{Float, nan}
+use Rattle.codes.specs.declared.ItemCodes.{ItemCodes}
+use Rattle.calls.specs.Calls.{made}
+use Rattle.restart.specs.Heard.{Side}
+use Rattle.restart.specs.Rule.{RestartFrom, callsOf, stateAt, frameAt, framesFrom, atRestart, TransportFields, Hypotheses}
+use Rattle.fields.specs.Parser.{read}
+use Rattle.record.specs.Records.{acceptedItem}
+use Rattle.item_calls.specs.Calls.{itemCalls}
+use Rattle.sittings.specs.OneByOne.{flat, sittingCalls, printed}
+use Rattle.sittings.specs.Frames.{framesOf}
+
+-- A restart in a sitting whose item is accepted: one in the list of its calls, the item's and then those of its events, from the player that is made.
+pub record SittingRestart (s : List ℕ) : Type 0 where
+  pub item : ItemCodes
+  pub next : ℕ
+  pub is-read : acceptedItem s 0 ≡ read item next
+  pub restart : RestartFrom (made (item .settings) (item .seed))
+  pub calls-are : callsOf restart ≡ itemCalls item ++ flat (sittingCalls item (drop next s))
+
+module _ {s : List ℕ} (a : SittingRestart s) where
+  -- "Frames are counted through from 0": the index of the first line at or after the restart
+  abbrev pub restartLine : ℕ
+  restartLine = stateAt (a .restart) .played + frameAt (a .restart)
+
+  -- the x or the y of the n-th line from the restart
+  abbrev pub valueFrom : Side → ℕ → Float
+  valueFrom side n = getD (printed side (a .item) (drop (a .next) s)) (restartLine + n) nan
+
+  -- there is such a line, and it is played "before the next restart or edit"
+  pub record PrintsLine (side : Side) (n : ℕ) : Type 0 where
+    pub there : restartLine + n < framesOf s
+    pub in-time : n < length (framesFrom (a .restart) side)
+
+-- two sittings restarted alike, under the hypotheses of `RestartRule`, print the same x and y, line by line from the restart
+abbrev pub PrintedRule : Type 0
+PrintedRule =
+    (s₁ s₂ : List ℕ) (a₁ : SittingRestart s₁) (a₂ : SittingRestart s₂) (fields : TransportFields) → Hypotheses (atRestart (a₁ .restart)) (atRestart (a₂ .restart)) fields
+    → (side : Side) (n : ℕ) → PrintsLine a₁ side n → PrintsLine a₂ side n → valueFrom a₁ side n ≡ valueFrom a₂ side n
