@@ -9,9 +9,8 @@ use fields::Place;
 use number::Reading;
 use number::Writing;
 use player::Player;
-use settings::Transport;
-use settings::TransportCode;
 use sittings::Event;
+use sittings::moved_on;
 use sittings::read_event;
 ghost use mathlib.Core.Path.{_≡_};
 ghost use mathlib.Core.Bool.{true, false, cond};
@@ -22,7 +21,7 @@ ghost use lib.ListN.{length};
 ghost use Rattle.player.specs.Player.{Valid};
 ghost use Rattle.text.specs.Lines.{header, numbers};
 ghost use Rattle.text.specs.Write.{Writes, Puts};
-ghost use Rattle.sittings.specs.Courses.{restartAt, movedOn};
+ghost use Rattle.sittings.specs.Courses.{restartAt};
 ghost use Rattle.record.specs.Records.{acceptedItem};
 ghost use Rattle.sittings.specs.Sheets.{failed};
 ghost use Rattle.sittings.specs.Windows.{faultLine, playing, went, faultTurn, eventTurn, playingTurn, closingTurn, stuckTurn, itemTurn, lastText};
@@ -31,27 +30,6 @@ ghost use Rattle.turns.specs.Turns.{courseOf, startOf, stageOf, readingO
 
 // What a turn prints at most: 4,096 lines of 39 bytes.
 const TURN_ROOM: usize = 159744;
-
-// The transport some frames on.
-fn moved_on(c: TransportCodes, frames: u64) -> TransportCodes
-    ensures { λ r. ⌜ r ≡ movedOn c frames ⌝ }
-{
-    let TransportCode::Known(t) = Transport::from_codes(c) else {
-        return c;
-    };
-    let next = t.advance(frames);
-    let scale = c.scale;
-    TransportCodes {
-        sample_rate: c.sample_rate,
-        tempo: c.tempo,
-        beats_per_bar: c.beats_per_bar,
-        playing: c.playing,
-        beats: next.beats,
-        seconds: next.seconds,
-        swing: c.swing,
-        scale,
-    }
-}
 
 // The place after a text that was written.
 fn place_after(w: Writing, place: usize) -> usize

@@ -1,9 +1,9 @@
 -- `moved_on` meets its contract. Assumes nothing.
 use borrow.Author.Needs.{needs}
 use mathlib.Core.Path.{sym, _∙_}
 use Rattle.sittings.specs.Courses.{movedOn}
-use Rattle.turns.proofs.steps.moved_on.Statement.{statement}
-use Rattle.turns.proofs.steps.moved_on.Tie as tie
+use Rattle.sittings.proofs.transports.moved_on.Statement.{statement}
+use Rattle.sittings.proofs.transports.moved_on.Tie as tie
 
 returns : tie.Need-returns
 unfolding movedOn
