@@ -1,8 +1,8 @@
--- The frames played are those of the accepted blocks. Assumes nothing.
+-- The frames played are those of the accepted blocks; calls one after the other. Assumes nothing.
 use Prim.Native.Nat.{ℕ, _+_}
 use mathlib.Core.Path.{_≡_, refl, sym, ap, _∙_}
 use mathlib.Core.Bool.{Bool, true, false, cond}
-use mathlib.Core.List.{List, [], _∷_}
+use mathlib.Core.List.{List, [], _∷_, _++_}
 use native.Mathlib.Nat.{add-zero, zero-add, add-assoc}
 use lib.ListN.{length}
 use Rattle.codes.specs.declared.SettingsCodes.{SettingsCodes}
@@ -44,6 +44,11 @@ call-counts p (block c frames restart x y) =
     (λ (e : accepts p (block c frames restart x y) ≡ true). rw (block-transport p c frames restart x y e .1) refl)
 
 -- ---- a list of calls
+
+pub after-append : (p : State) (a b : List Call) → after p (a ++ b) ≡ after (after p a) b
+unfolding after
+after-append p [] b = refl
+after-append p (c ∷ a) b = after-append (step p c) a b
 
 after-played : (p : State) (calls : List Call) → after p calls .played ≡ p .played + framesIn p calls
 unfolding after framesIn

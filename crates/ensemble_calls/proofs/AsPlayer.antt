@@ -24,6 +24,7 @@ use Rattle.calls.specs.Blocks.{values}
 use Rattle.calls.specs.Calls as player
 use Rattle.calls.specs.Calls.{bySettings}
 use Rattle.calls.proofs.Blocks.{length-values}
+use Rattle.calls.proofs.Played.{after-append}
 use Rattle.ensemble_calls.specs.Ensembles.{VoiceRecord, EnsembleState, seedOf, serverIndex, newRecord, newEnsemble, noRecord}
 use Rattle.ensemble_calls.specs.Blocks.{playing, voiceValues, voiceFinished}
 use Rattle.ensemble_calls.specs.Questions.{countQuestion, pageQuestions, makeQuestions}
@@ -134,11 +135,6 @@ module _ (e : EnsembleState) (v : ℕ) (one : v < length (e .voices)) where
       go false h = unfold playerPlays in refused-heard (e .shared) v e one c h
 
 -- ---- a list of calls
-
-after-append : (p : State) (l r : List player.Call) → player.after p (l ++ r) ≡ player.after (player.after p l) r
-unfolding player.after
-after-append p [] r = refl
-after-append p (c ∷ l) r = after-append (player.step p c) l r
 
 plays-append : (p : State) (l r : List player.Call) → playerPlays p (l ++ r) ≡ playerPlays p l ++ playerPlays (player.after p l) r
 unfolding player.after playerPlays

@@ -15,17 +15,15 @@ use lib.Ieee.{Float, nan}
 use Rattle.codes.specs.declared.ItemCodes.{ItemCodes}
 use Rattle.codes.specs.declared.RestartCodes.{RestartCodes}
 use Rattle.codes.specs.declared.SettingsCodes.{SettingsCodes}
-use Rattle.codes.specs.declared.TransportCodes.{TransportCodes}
 use Rattle.calls.specs.State.{State}
 use Rattle.calls.specs.Blocks.{pendingOf}
 use Rattle.calls.specs.Calls.{Call, settings, shape, path, bus, phase, block, accepts, made, step, after}
 use Rattle.calls.specs.Laws.{framesOf, framesIn}
-use Rattle.calls.proofs.Blocks.{block-transport, length-values}
 use Rattle.calls.proofs.Played.{list-counts}
 use Rattle.restart.specs.Heard.{Side, framesUpTo, heard}
 use Rattle.restart.specs.Heard as Heard
 use Rattle.restart.specs.Rule.{RestartFrom, callsOf, stateAt, statePast, restartBlock, frameAt, framesFrom, JustMade}
-use Rattle.restart.proofs.Steps.{read-values, valueOf}
+use Rattle.restart.proofs.Steps.{read-length}
 use Rattle.restart.proofs.RestartRule.{restart-rule}
 use Rattle.fields.specs.Parser.{read, fault}
 use Rattle.fields.proofs.Chains.{was-read, same-value, no-fault}
@@ -117,18 +115,13 @@ module _ (side : Side) where
 
   -- ---- as much as is counted
 
-  read-length : (p : State) (t : TransportCodes) (n : ℕ) (r : RestartCodes) (x y : List Float) → accepts p (block t n r x y) ≡ true → length (Heard.read side p t n r x y) ≡ n
-  read-length p t n r x y e =
-      let (known, is) = block-transport p t n r x y e in
-      ap length (read-values p t n r x y known is e side) ∙ length-values p known n (pendingOf r) (valueOf side)
-
   own-length : (p : State) (c : Call) → length (own p c) ≡ framesOf p c
   own-length p (settings c) = none-length (accepts p (settings c))
   own-length p (shape c) = none-length (accepts p (shape c))
   own-length p (path c) = none-length (accepts p (path c))
   own-length p (bus k z) = none-length (accepts p (bus k z))
   own-length p (phase t) = none-length (accepts p (phase t))
-  own-length p (block t n r x y) = block-length (accepts p (block t n r x y)) (Heard.read side p t n r x y) n (read-length p t n r x y)
+  own-length p (block t n r x y) = block-length (accepts p (block t n r x y)) (Heard.read side p t n r x y) n (λ e. read-length p t n r x y e side)
 
   whole-length : (p : State) (cs : List Call) → length (whole p cs) ≡ framesIn p cs
   unfolding whole framesIn
@@ -159,7 +152,7 @@ module _ (side : Side) where
     unfolding framesFrom whole
     from-front =
         let e = r .accepted in
-        let long : length values ≡ r .frames = read-length (stateAt r) (r .transport) (r .frames) (r .restart) (r .x) (r .y) (rw e) in
+        let long : length values ≡ r .frames = read-length (stateAt r) (r .transport) (r .frames) (r .restart) (r .x) (r .y) (rw e) side in
         rw (e, drop-append-le (frameAt r) values (whole (statePast r) (r .rest)) (omega arith)) (front-behind (drop (frameAt r) values) (heard-front (statePast r) (r .rest)))
 
 -- ---- an accepted item's settings make a player

@@ -1,17 +1,22 @@
 -- The restart rule of what is printed: `RestartRule` of crate `restart`, of the lines of two sheets. It is proved in proofs/PrintedRule.antt. Assumes nothing.
 use Prim.Native.Nat.{ℕ, _+_, _<_}
 use mathlib.Core.Path.{_≡_}
-use mathlib.Core.List.{List, _++_}
+use mathlib.Core.List.{List, [], _∷_, _++_}
 use lib.ListN.{length, getD, drop}
 use lib.Ieee.{Float, nan}
 use Rattle.codes.specs.declared.ItemCodes.{ItemCodes}
-use Rattle.calls.specs.Calls.{made}
+use Rattle.codes.specs.declared.TransportCodes.{TransportCodes}
+use Rattle.calls.specs.Calls.{made, answer, after}
 use Rattle.restart.specs.Heard.{Side}
 use Rattle.restart.specs.Rule.{RestartFrom, callsOf, stateAt, frameAt, framesFrom, atRestart, TransportFields, Hypotheses}
 use Rattle.fields.specs.Parser.{read}
+use Rattle.record.specs.Items.{transportOf}
 use Rattle.record.specs.Records.{acceptedItem}
-use Rattle.item_calls.specs.Calls.{itemCalls}
-use Rattle.sittings.specs.OneByOne.{flat, sittingCalls, printed}
+use Rattle.item_calls.specs.Calls.{itemCalls, itemState}
+use Rattle.sittings.specs.declared.Event.{Event}
+use Rattle.sittings.specs.declared.Event.the-variants.{Block, Restart, Bus, End}
+use Rattle.sittings.specs.Courses.{noRestart, restartAt, movedOn, playCall}
+use Rattle.sittings.specs.OneByOne.{script, eventCalls, flat, sittingCalls, printed}
 use Rattle.sittings.specs.Frames.{framesOf}
 
 -- A restart in a sitting whose item is accepted: one in the list of its calls, the item's and then those of its events, from the player that is made.
@@ -21,6 +26,23 @@ pub record SittingRestart (s : List ℕ) : Type 0 where
   pub is-read : acceptedItem s 0 ≡ read item next
   pub restart : RestartFrom (made (item .settings) (item .seed))
   pub calls-are : callsOf restart ≡ itemCalls item ++ flat (sittingCalls item (drop next s))
+
+-- the transport that the next block gets after some events
+unfoldable pub transportPast : TransportCodes → List Event → TransportCodes
+transportPast t [] = t
+transportPast t (Block frames ∷ es) = transportPast (movedOn t frames) es
+transportPast t (Restart frame ∷ es) = transportPast t es
+transportPast t (Bus k value ∷ es) = transportPast t es
+transportPast t (End ∷ es) = transportPast t es
+
+-- The restart that an accepted block takes is such a one: after the events `before`, the event that asks for it at the frame k and, behind it, the block of n frames.
+pub record Taken (s : List ℕ) (i : ItemCodes) (next : ℕ) (before rest : List Event) (k n : ℕ) : Type 0 where
+  pub is-read : acceptedItem s 0 ≡ read i next
+  pub events-are : script (drop next s) .events ≡ before ++ (Restart k ∷ Block n ∷ rest)
+  pub accepted : answer (after (itemState i) (flat (eventCalls (transportOf i) noRestart before))) (playCall (transportPast (transportOf i) before) (restartAt k) n) ≡ 0
+
+abbrev pub TakenRestart : Type 0
+TakenRestart = (s : List ℕ) (i : ItemCodes) (next : ℕ) (before rest : List Event) (k n : ℕ) → Taken s i next before rest k n → SittingRestart s
 
 module _ {s : List ℕ} (a : SittingRestart s) where
   -- "Frames are counted through from 0": the index of the first line at or after the restart

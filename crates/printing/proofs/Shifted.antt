@@ -1,5 +1,5 @@
 -- Bytes of a list moved to its front, one after the other. Assumes nothing.
-use Prim.Native.Nat.{ℕ, suc, _+_, _≤_, _<_}
+use Prim.Native.Nat.{ℕ, _+_, _≤_, _<_}
 use mathlib.Core.Path.{_≡_, sym, ap, _∙_}
 use mathlib.Core.List.{List, []}
 use native.Mathlib.Nat.{zero-add, add-comm}
@@ -8,7 +8,7 @@ use native.Mathlib.Omega.{arith}
 use lib.ListN.{length, take, drop, getD, set, length-drop}
 use lib.Seq.{take-at, take-suc, length-take-le, getD-drop, getD-append-add}
 use Rattle.listlaws.specs.Over.{over}
-use Rattle.listlaws.proofs.Over.{over-none, over-front, over-more-at, length-over}
+use Rattle.listlaws.proofs.Over.{over-none, over-front, over-more-at}
 
 module _ (x : List ℕ) (from : ℕ) where
   pub shifted-none : x ≡ over x 0 (take 0 (drop from x))

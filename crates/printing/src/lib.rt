@@ -42,6 +42,7 @@ fn print_last(t: Sitting, s: &[u8], out: &mut [u8])
 // Prints through a window and buffers that are lent.
 fn print_through(window: &mut [u8], x: &mut [f32], y: &mut [f32], out: &mut [u8], most: u64) -> u64
     requires { ⌜ (length (now window) ≡ 65536) × (length (now x) ≡ 4096) × (length (now y) ≡ 4096) × (length (now out) ≡ 319488) ⌝ }
+    ensures { λ r. ⌜ r ≤ most ⌝ }
 {
     let mut sitting = turns::begin();
     let mut from: usize = 0;
@@ -87,7 +88,9 @@ fn text_buffer() -> [u8; ROOM]
 
 // Prints the sheet of the sitting in the next `most` bytes of standard input, or in all where there are fewer. Answers how many of these bytes it has not read: it stops at the
 // first fault, and where standard output is closed.
-pub fn print_sheet(most: u64) -> u64 {
+pub fn print_sheet(most: u64) -> u64
+    ensures { λ r. ⌜ r ≤ most ⌝ }
+{
     let mut window = io::large_buffer();
     let mut x = zeros();
     let mut y = zeros();

@@ -1,9 +1,9 @@
 -- An accepted block of a player is a block of its voice. Assumes nothing.
 use Prim.Native.Nat.{ℕ}
-use mathlib.Core.Path.{_≡_, refl}
+use mathlib.Core.Path.{_≡_, refl, ap, _∙_}
 use mathlib.Core.Bool.{true}
 use mathlib.Core.List.{List}
-use lib.ListN.{drop}
+use lib.ListN.{length, drop}
 use lib.Seq.{take-at}
 use lib.Ieee.{Float}
 use Rattle.settings.specs.declared.record.Settings.{Settings}
@@ -22,7 +22,7 @@ use Rattle.codes.specs.declared.RestartCodes.{RestartCodes}
 use Rattle.calls.specs.State.{State}
 use Rattle.calls.specs.Blocks.{pendingOf, playedState, values}
 use Rattle.calls.specs.Calls.{block, accepts, accepted, step, played, buffer}
-use Rattle.calls.proofs.Blocks.{length-values}
+use Rattle.calls.proofs.Blocks.{block-transport, length-values}
 use Rattle.restart.specs.Heard.{Side, x-side, y-side, read}
 
 -- ---- its player, and what it leaves in the buffer
@@ -41,6 +41,12 @@ module _ (p : State) (c : TransportCodes) (n : ℕ) (r : RestartCodes) (x y : Li
   unfolding read buffer played
   read-values x-side = rw (e, R) (take-at (values p t n (pendingOf r) (valueOf x-side)) (drop n x) n (length-values p t n (pendingOf r) (valueOf x-side)))
   read-values y-side = rw (e, R) (take-at (values p t n (pendingOf r) (valueOf y-side)) (drop n y) n (length-values p t n (pendingOf r) (valueOf y-side)))
+
+-- one value of each frame
+pub read-length : (p : State) (c : TransportCodes) (n : ℕ) (r : RestartCodes) (x y : List Float) → accepts p (block c n r x y) ≡ true → (side : Side) → length (read side p c n r x y) ≡ n
+read-length p c n r x y e side =
+    let (t, is) = block-transport p c n r x y e in
+    ap length (read-values p c n r x y t is e side) ∙ length-values p t n (pendingOf r) (valueOf side)
 
 -- ---- of a player with given settings and curve
 

@@ -10,24 +10,30 @@ use codes::SpanCodes;
 use codes::TransportCodes;
 use libc::STDERR_FILENO;
 use libc::STDOUT_FILENO;
+use number::Writing;
 
 const FRAMES: usize = 4;
 
-fn show(text: &[u8]) {
-    io::write_all(STDOUT_FILENO, text);
+// The first `n` bytes.
+fn show(out: &[u8], n: usize) {
+    if n <= out.len() {
+        io::write_all(STDOUT_FILENO, &out[..n]);
+    }
 }
 
-fn show_float(value: f32) {
-    show(b" ");
-    io::print_hex(STDOUT_FILENO, floatbits::bits_of_f32(value), 8);
+// The place after a text; a text that has no room is not there.
+fn end_of(w: Writing) -> usize {
+    match w {
+        Writing::Next(next) => next,
+        Writing::NoRoom => 0,
+    }
 }
 
-// One line: a frame.
-fn show_frame(index: u64, x: f32, y: f32) {
-    io::print_decimal(STDOUT_FILENO, index);
-    show_float(x);
-    show_float(y);
-    show(b"\n");
+fn show_sheet(x: &[f32; FRAMES], y: &[f32; FRAMES]) {
+    let mut out = io::buffer();
+    let lines = end_of(text::write_header(&mut out, 0));
+    let end = end_of(text::write_lines(&mut out, lines, 0, x, y, FRAMES));
+    show(&out, end);
 }
 
 // No delay and no fade.
@@ -91,8 +97,9 @@ fn refused(answer: u8) -> bool {
     if answer == 0 {
         return false;
     }
-    io::print_decimal(STDOUT_FILENO, answer as u64);
-    show(b"\n");
+    let mut out = io::buffer();
+    let end = end_of(text::write_number(&mut out, 0, answer as u64));
+    show(&out, end);
     io::write_all(
         STDERR_FILENO,
         b"sheet: refused; docs/RULES.md has the question of that number\n",
@@ -115,9 +122,5 @@ fn main() {
     if refused(played.answer) {
         return;
     }
-    show(b"frame x y\n");
-    show_frame(0, x[0], y[0]);
-    show_frame(1, x[1], y[1]);
-    show_frame(2, x[2], y[2]);
-    show_frame(3, x[3], y[3]);
+    show_sheet(&x, &y);
 }

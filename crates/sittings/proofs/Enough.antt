@@ -1,17 +1,15 @@
 -- Each event takes a byte or more, so as many events as there are bytes are all of them. Assumes nothing.
-use Prim.Native.Nat.{ℕ, zero, suc, _+_, _-_, _≤_, _<_}
-use mathlib.Core.Path.{_≡_, refl, sym, ap, _∙_}
-use mathlib.Core.Bool.{cond}
-use mathlib.Core.List.{List, [], _∷_, _++_}
+use Prim.Native.Nat.{ℕ, zero, suc, _+_, _-_, _≤_}
+use mathlib.Core.Path.{_≡_, refl}
+use mathlib.Core.List.{List, [], _∷_}
 use native.Mathlib.Omega.{arith}
 use lib.ListN.{length, drop, length-drop}
-use Rattle.calls.specs.Calls.{bus, answer, accepts}
 use Rattle.fields.specs.Parser.{Parsed, read, fault}
 use Rattle.sittings.specs.declared.Event.{Event}
 use Rattle.sittings.specs.declared.Event.the-variants.{Block, Restart, Bus, End}
 use Rattle.sittings.specs.Events.{event}
-use Rattle.sittings.specs.Courses.{Course, blockOf, blockLines, afterBlock, afterRestart, afterBus}
-use Rattle.sittings.specs.Sheets.{failed, fromEvent, fromRead, eventsText, eventsFrom}
+use Rattle.sittings.specs.Courses.{Course, afterBlock, afterRestart, afterBus}
+use Rattle.sittings.specs.Sheets.{fromEvent, fromRead, eventsText, eventsFrom}
 use Rattle.sittings.proofs.Reading.{event-ahead}
 
 module _ (f g : Course → List ℕ → List ℕ) (p : Course) where

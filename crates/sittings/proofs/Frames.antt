@@ -1,9 +1,8 @@
 -- As many frames are printed as a sitting's bytes say. Assumes nothing.
 use Prim.Native.Nat.{ℕ, _+_}
-use mathlib.Core.Path.{_≡_, refl, sym, ap, ap₂, _∙_}
+use mathlib.Core.Path.{_≡_, refl, ap₂, _∙_}
 use mathlib.Core.Bool.{Bool, true, false, cond}
 use mathlib.Core.List.{List, [], _∷_, _++_}
-use lib.Dec.{eqb}
 use lib.ListN.{length, drop, length-append, length-replicate}
 use lib.Ieee.{Float}
 use Rattle.floatlaws.specs.Numbers.{f32-0}

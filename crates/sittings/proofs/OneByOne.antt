@@ -3,20 +3,15 @@
 use Prim.Native.Nat.{ℕ, zero, suc, _+_}
 use mathlib.Core.Path.{_≡_, refl, sym, ap, _∙_}
 use mathlib.Core.Bool.{Bool, true, false, cond}
-use mathlib.Core.List.{List, [], _∷_, _++_, append-nil, append-assoc}
+use mathlib.Core.List.{List, [], _∷_, _++_, append-assoc}
 use native.Mathlib.Nat.{add-zero}
-use lib.Dec.{eqb}
 use lib.ListN.{length, drop}
 use lib.Ieee.{Float}
-use Rattle.codes.specs.declared.TransportCodes.{TransportCodes}
-use Rattle.codes.specs.declared.RestartCodes.{RestartCodes}
 use Rattle.calls.specs.State.{State}
-use Rattle.calls.specs.Blocks.{pendingOf}
-use Rattle.calls.specs.Calls.{Call, bus, answer, accepts, step, after}
+use Rattle.calls.specs.Calls.{bus, answer, accepts, step, after}
 use Rattle.restart.specs.Heard.{Side, x-side, y-side}
-use Rattle.calls.proofs.Blocks.{block-transport, length-values}
 use Rattle.calls.proofs.Played.{call-counts}
-use Rattle.restart.proofs.Steps.{read-values, valueOf}
+use Rattle.restart.proofs.Steps.{read-length}
 use Rattle.fields.specs.Parser.{Parsed, read, fault}
 use Rattle.text.specs.Lines.{header, lines}
 use Rattle.text.proofs.ReadBack.{lines-append}
@@ -25,7 +20,7 @@ use Rattle.sittings.specs.declared.Event.the-variants.{Block, Restart, B
 use Rattle.sittings.specs.Events.{event}
 use Rattle.sittings.specs.Courses.{Course, silence, noRestart, restartAt, movedOn, playCall, blockOf, blockValues, blockLines, afterBlock, afterRestart, afterBus}
 use Rattle.sittings.specs.Sheets.{failed, afterEnd, fromEvent, fromRead, eventsText, eventsFrom, fromItem, started, sheet}
-use Rattle.sittings.specs.OneByOne.{Script, stopped, endStop, whole, faulty, scriptOn, scriptRead, scriptOf, script, eventCalls, flat, shown, firstRefusal, lastLine, sittingCalls, printed}
+use Rattle.sittings.specs.OneByOne.{Script, stopped, endStop, faulty, scriptOn, scriptRead, scriptOf, script, eventCalls, flat, shown, firstRefusal, lastLine, sittingCalls, printed}
 use Rattle.sittings.specs.Promises.{NoEffect, CallsOneByOne, RefusedItem}
 use Rattle.sittings.proofs.Unplayed.{unplayed}
 
@@ -33,10 +28,7 @@ use Rattle.sittings.proofs.Unplayed.{unplayed}
 
 module _ (p : Course) (frames : ℕ) (ok : accepts (p .state) (blockOf p frames) ≡ true) where
   pub heard-length : (side : Side) → length (blockValues side p frames) ≡ frames
-  heard-length side =
-      let (t, is) = block-transport (p .state) (p .transport) frames (p .waiting) silence silence ok in
-      ap length (read-values (p .state) (p .transport) frames (p .waiting) silence silence t is ok side)
-      ∙ length-values (p .state) t frames (pendingOf (p .waiting)) (valueOf side)
+  heard-length = read-length (p .state) (p .transport) frames (p .waiting) silence silence ok
 
   pub block-counts : step (p .state) (blockOf p frames) .played ≡ p .state .played + frames
   block-counts = rw ok at (call-counts (p .state) (blockOf p frames))

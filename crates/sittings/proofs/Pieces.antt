@@ -11,19 +11,18 @@ use lib.Dec.{eqb, ltb}
 use lib.ListN.{length, drop}
 use lib.Seq.{drop-append-le, drop-length}
 use Rattle.number.specs.Read.{leading}
-use Rattle.calls.specs.Calls.{bus, answer, accepts}
+use Rattle.calls.specs.Calls.{bus, accepts}
 use Rattle.fields.specs.Parser.{Parsed, read, fault, cutShort, badNumber}
 use Rattle.streams.specs.Streams.{unending}
 use Rattle.streams.proofs.Parsers.{unending-front, unending-on}
 use Rattle.codes.specs.declared.ItemCodes.{ItemCodes}
 use Rattle.record.specs.Records.{leftOver, acceptedItem}
 use Rattle.streams.proofs.Items.{accepted-streams}
-use Rattle.text.specs.Lines.{header}
 use Rattle.sittings.specs.declared.Event.{Event}
 use Rattle.sittings.specs.declared.Event.the-variants.{Block, Restart, Bus, End}
 use Rattle.sittings.specs.Events.{event}
 use Rattle.sittings.specs.Courses.{Course, blockOf, blockLines, afterBlock, afterBus}
-use Rattle.sittings.specs.Sheets.{failed, missing, afterEnd, fromEvent, fromRead, eventsText, eventsFrom, fromItem, started, sheet}
+use Rattle.sittings.specs.Sheets.{failed, afterEnd, fromEvent, fromRead, eventsText, eventsFrom, fromItem, sheet}
 use Rattle.sittings.specs.Windows.{BeingRead, theItem, theEvent, faultLine, mostOf, Stage, opening, playing, closing, stuck, noMore, Turn, wants, went, textFrom, faultTurn, itemTurn, eventTurn, readTurn, playingTurn, closingTurn, stuckTurn, turn, lastText, Goes, Prints, reads, goes, ends, stops}
 use Rattle.sittings.specs.Promises.{TurnsRight, WantsFew, EndsRight, PrintsSheet}
 use Rattle.sittings.proofs.Reading.{event-streams}

@@ -1,7 +1,6 @@
 -- Some sittings, which the definitions meet by computation. Assumes nothing.
-use Prim.Native.Nat.{ℕ}
 use mathlib.Core.Path.{_≡_, refl}
-use mathlib.Core.List.{List, [], _∷_, _++_, map}
+use mathlib.Core.List.{[], _∷_, map}
 use lib.ListN.{replicate}
 use lib.Ieee.{ofBits, neg, le}
 use Rattle.floatlaws.specs.Numbers.{f32-0, f32-100, f64-0, f64-4, f64-120}

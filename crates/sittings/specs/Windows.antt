@@ -4,7 +4,7 @@ use mathlib.Core.Path.{_≡_}
 use mathlib.Core.Bool.{cond}
 use mathlib.Core.List.{List, [], _∷_, _++_}
 use lib.Dec.{eqb, ltb}
-use lib.ListN.{length, drop}
+use lib.ListN.{length}
 use Rattle.number.specs.Read.{leading}
 use Rattle.calls.specs.Calls.{bus, answer, accepts}
 use Rattle.fields.specs.Parser.{Parsed, read, fault, cutShort, badNumber}

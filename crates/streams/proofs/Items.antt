@@ -11,7 +11,7 @@ use lib.Ieee.{Float}
 use Rattle.number.specs.Read as Read
 use Rattle.number.specs.Read.{leading, readFrom, readAt}
 use Rattle.questions.specs.Questions.{Question, firstNo}
-use Rattle.fields.specs.Parser.{Parser, read, fault, cutShort, after, _then_, done, row}
+use Rattle.fields.specs.Parser.{Parser, read, fault, cutShort, after, _then_, row}
 use Rattle.fields.specs.Fields.{below}
 use Rattle.streams.specs.Streams.{Streams}
 use Rattle.streams.proofs.Parsers.{number-streams, below-streams, f32-streams, f64-streams, done-streams, fault-streams, wider, then-streams, counted-streams, that-streams, when-streams, row-streams, Ahead, below-ahead, begins}

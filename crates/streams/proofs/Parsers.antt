@@ -10,12 +10,12 @@ use mathlib.Core.List.{List, [], _∷_, _++_}
 use native.Mathlib.Omega.{arith}
 use borrow.Author.Tests.{ltb-true, ltb-false, eqb-true, lt-ltb, le-ltb}
 use lib.Dec.{ltb, eqb}
-use lib.ListN.{length, take, drop, getD, length-append, length-drop, drop-of-length-le, List·getD-append}
+use lib.ListN.{length, take, drop, getD, length-append, length-drop, List·getD-append}
 use lib.Seq.{take-append-le, drop-append-le}
-use lib.Ieee.{Float, binary32, binary64, ofBits}
+use lib.Ieee.{binary32, binary64, ofBits}
 use Rattle.number.specs.declared.Reading.{Reading}
 use Rattle.number.specs.declared.Reading.the-variants.{Number, CutShort, Bad}
-use Rattle.number.specs.Read.{leading, numberOf, shortest, judged, smallEnd, rightEnd, readFrom, readAt}
+use Rattle.number.specs.Read.{leading, numberOf, shortest, rightEnd, readFrom, readAt}
 use Rattle.number.specs.Read as Read
 use Rattle.number.proofs.Judge.{judged-by-end}
 use Rattle.number.proofs.Exact.{below-small}

@@ -2,10 +2,10 @@
 --     turn-waits, turn-goes, turn-writes     nothing is printed, or a text
 --     fault-short                            the line of a fault has room
 --     block-facts, block-lines, block-turned, bus-turned, event-fails     the events
-use Prim.Native.Nat.{ℕ, suc, _+_, _*_, _≤_, _<_, _^_}
+use Prim.Native.Nat.{ℕ, suc, _+_, _≤_, _<_, _^_}
 use mathlib.Core.Path.{_≡_, refl, sym, ap, _∙_, subst}
 use mathlib.Core.Bool.{Bool, true, false, cond, false≢true}
-use mathlib.Core.List.{List, [], _∷_, _++_}
+use mathlib.Core.List.{List, [], _∷_}
 use native.Mathlib.Omega.{arith}
 use native.Mathlib.Numerals.{add-one}
 use borrow.Author.Tests.{eq-eqb, ne-eqb, lt-ltb, le-ltb}
@@ -13,7 +13,6 @@ use lib.Dec.{eqb, ltb}
 use lib.ListN.{length, take, length-append, length-replicate}
 use lib.Ieee.{Float}
 use Rattle.floatlaws.specs.Numbers.{f32-0}
-use Rattle.listlaws.specs.Over.{over}
 use Rattle.listlaws.proofs.Over.{over-none}
 use Rattle.number.specs.declared.Reading as Numbers
 use Rattle.number.specs.declared.Reading.the-variants.{Number, CutShort, Bad}
@@ -23,10 +22,8 @@ use Rattle.fields.specs.declared.reader.Place.{Place}
 use Rattle.fields.specs.Parser.{read, fault}
 use Rattle.fields.specs.Places.{Reads}
 use Rattle.streams.proofs.Parsers.{all-leads, ends}
-use Rattle.questions.specs.Questions.{firstNo, blockQuestions}
 use Rattle.questions.proofs.Facts.{BlockAccepted, block-accepted}
-use Rattle.calls.specs.State.{State}
-use Rattle.calls.specs.Calls.{block, bus, questions, answer, accepts, accepted, step, buffer}
+use Rattle.calls.specs.Calls.{block, bus, questions, answer, accepts, accepted, step}
 use Rattle.restart.specs.Heard.{Side, x-side, y-side}
 use Rattle.restart.specs.Heard as Heard
 use Rattle.restart.proofs.Steps.{read-values}
@@ -56,7 +53,7 @@ use Rattle.record.specs.Items.{transportOf}
 use Rattle.record.specs.Records.{acceptedItem}
 use Rattle.item_calls.specs.Calls.{itemState}
 use Rattle.sittings.specs.Sheets.{failed, started}
-use Rattle.sittings.specs.Windows.{BeingRead, theItem, theEvent, faultLine, mostOf, playing, stuck, Turn, wants, went, faultTurn, eventTurn, readTurn, playingTurn, closingTurn, stuckTurn, itemTurn, turn, lastText}
+use Rattle.sittings.specs.Windows.{BeingRead, theItem, theEvent, faultLine, mostOf, playing, stuck, wants, went, faultTurn, eventTurn, readTurn, playingTurn, closingTurn, stuckTurn, itemTurn, turn, lastText}
 use Rattle.sittings.specs.Windows as Windows
 use Rattle.turns.specs.Turns.{courseOf, startOf, stageAt, stageOf, readingOf, stuckProgress, withProgress, nextSitting, placeAfter, turnRoom, Going, OneTurn}
 

@@ -1,7 +1,7 @@
 -- OneTurn one after the other, by the bytes at hand. Assumes nothing.
 --     Ran        what was printed and what is left, after some turns
 --     ran-first, ran-going, ran-on, ran-full, ran-waits, ran-end     its steps, and its ends
-use Prim.Native.Nat.{ℕ, suc, _+_, _-_, _≤_, _<_, _^_}
+use Prim.Native.Nat.{ℕ, suc, _+_, _-_, _≤_, _<_}
 use mathlib.Core.Path.{_≡_, refl, sym, ap, _∙_, subst}
 use mathlib.Core.Logic.{_⊎_, inl, inr}
 use mathlib.Core.Bool.{Bool, true, false, cond, false≢true, true≢false}

@@ -1,6 +1,6 @@
 -- `with_buses` meets its contract. Assumes nothing.
-use Prim.Native.Nat.{_-_, _≤_, suc}
-use mathlib.Core.Path.{_≡_, refl, sym, ap, _∙_}
+use Prim.Native.Nat.{_-_, _≤_}
+use mathlib.Core.Path.{_≡_, refl}
 use native.Mathlib.Omega.{arith}
 use borrow.Author.Needs.{needs}
 use lib.ListN.{length, drop}

@@ -1,5 +1,4 @@
 -- `skip` is safe and ends. Assumes nothing.
-use native.Mathlib.Omega.{arith}
 use borrow.Author.Needs.{needs}
 use Rattle.replay_sittings.proofs.skip.Statement.{statement}
 use Rattle.replay_sittings.proofs.skip.Tie as tie

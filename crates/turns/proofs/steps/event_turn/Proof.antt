@@ -1,10 +1,8 @@
 -- `event_turn` meets its contract. Assumes nothing.
 use borrow.Author.Needs.{needs}
 use native.Mathlib.Omega.{arith}
-use native.Mathlib.Numerals.{add-one}
 use Rattle.turns.specs.declared.Progress.the-variants as Progress
-use Rattle.sittings.specs.Courses.{restartAt, afterRestart}
-use Rattle.sittings.specs.Windows.{eventTurn}
+use Rattle.sittings.specs.Courses.{restartAt}
 use Rattle.turns.specs.Turns.{withProgress, nextSitting}
 use Rattle.turns.proofs.One.{turn-goes, restart-goes, end-goes}
 use Rattle.turns.proofs.steps.event_turn.Statement.{statement}

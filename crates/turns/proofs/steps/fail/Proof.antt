@@ -2,7 +2,6 @@
 use borrow.Author.Needs.{needs}
 use native.Mathlib.Omega.{arith}
 use Prim.Native.Nat.{_<_, _^_}
-use mathlib.Core.Path.{_≡_, ap, _∙_}
 use Rattle.turns.proofs.One.{turn-fails}
 use Rattle.turns.proofs.steps.fail.Statement.{statement}
 use Rattle.turns.proofs.steps.fail.Tie as tie

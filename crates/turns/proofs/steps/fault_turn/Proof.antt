@@ -1,11 +1,9 @@
 -- `fault_turn` meets its contract. Assumes nothing.
 use borrow.Author.Needs.{needs}
 use native.Mathlib.Omega.{arith}
-use mathlib.Core.Path.{_≡_, sym}
-use mathlib.Core.Bool.{Bool, true, false, cond}
 use borrow.Author.Tests.{eq-eqb, ne-eqb, lt-ltb, le-ltb}
-use Rattle.sittings.specs.Windows.{mostOf, faultTurn}
-use Rattle.turns.specs.Turns.{readingOf, stuckProgress, withProgress}
+use Rattle.sittings.specs.Windows.{faultTurn}
+use Rattle.turns.specs.Turns.{stuckProgress, withProgress}
 use Rattle.turns.proofs.One.{turn-waits, turn-goes, stuck-stage, most-is}
 use Rattle.turns.proofs.steps.fault_turn.Statement.{statement}
 use Rattle.turns.proofs.steps.fault_turn.Tie as tie
