@@ -36,7 +36,7 @@ module _ (p : Course) (frames : ℕ) (ok : accepts (p .state) (blockOf p frames)
 pub bus-counts : (p : State) (k : ℕ) (value : Float) → step p (bus k value) .played ≡ p .played
 bus-counts p k value = call-counts p (bus k value) ∙ add-zero (p .played)
 
--- ---- the text of a script that is played from a session on
+-- ---- the text of a script that is played from a course on
 
 told : Course → Script → List ℕ
 told p e =

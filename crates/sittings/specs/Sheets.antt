@@ -28,7 +28,7 @@ unfoldable pub afterEnd : ℕ → List ℕ → List ℕ
 afterEnd index [] = []
 afterEnd index (b ∷ l) = failed index leftOver
 
--- `rest` is what is printed from a session on, by the bytes that are left.
+-- `rest` is what is printed from a course on, by the bytes that are left.
 module _ (rest : Course → List ℕ → List ℕ) where
   -- what is printed from an event on, with the bytes l behind it
   unfoldable pub fromEvent : Course → Event → List ℕ → List ℕ

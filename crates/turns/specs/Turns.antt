@@ -47,7 +47,7 @@ isOver Progress.StuckItem = false
 isOver Progress.StuckEvent = false
 isOver Progress.NoMore = true
 
--- what is being read, the item or an event; and the progress in a number of it that is too long
+-- what is being read, the item or an event; and how far a sitting is in a number of it that is too long
 abbrev pub readingOf : Bool → Sitting → BeingRead
 readingOf true t = theItem
 readingOf false t = theEvent (t .index)
@@ -56,7 +56,7 @@ abbrev pub stuckProgress : Bool → Progress
 stuckProgress true = Progress.StuckItem
 stuckProgress false = Progress.StuckEvent
 
--- the same in another progress
+-- the same, come to another place
 abbrev pub withProgress : Sitting → Progress → Sitting
 withProgress t progress = record { progress = progress; player = t .player; transport = t .transport; waiting = t .waiting; index = t .index }
 
