@@ -5,7 +5,9 @@ use mathlib.Core.List.{List, [], _∷_, _++_}
 use lib.ListN.{length, getD, drop}
 use lib.Ieee.{Float, nan}
 use Rattle.codes.specs.declared.ItemCodes.{ItemCodes}
+use Rattle.codes.specs.declared.RestartCodes.{RestartCodes}
 use Rattle.codes.specs.declared.TransportCodes.{TransportCodes}
+use Rattle.calls.specs.State.{State}
 use Rattle.calls.specs.Calls.{made, answer, after}
 use Rattle.restart.specs.Heard.{Side}
 use Rattle.restart.specs.Rule.{RestartFrom, callsOf, stateAt, frameAt, framesFrom, atRestart, TransportFields, Hypotheses}
@@ -27,7 +29,7 @@ pub record SittingRestart (s : List ℕ) : Type 0 where
   pub restart : RestartFrom (made (item .settings) (item .seed))
   pub calls-are : callsOf restart ≡ itemCalls item ++ flat (sittingCalls item (drop next s))
 
--- the transport that the next block gets after some events
+-- the transport that the next block gets after some events, and the restart that waits for it
 unfoldable pub transportPast : TransportCodes → List Event → TransportCodes
 transportPast t [] = t
 transportPast t (Block frames ∷ es) = transportPast (movedOn t frames) es
@@ -35,14 +37,41 @@ transportPast t (Restart frame ∷ es) = transportPast t es
 transportPast t (Bus k value ∷ es) = transportPast t es
 transportPast t (End ∷ es) = transportPast t es
 
--- The restart that an accepted block takes is such a one: after the events `before`, the event that asks for it at the frame k and, behind it, the block of n frames.
-pub record Taken (s : List ℕ) (i : ItemCodes) (next : ℕ) (before rest : List Event) (k n : ℕ) : Type 0 where
-  pub is-read : acceptedItem s 0 ≡ read i next
-  pub events-are : script (drop next s) .events ≡ before ++ (Restart k ∷ Block n ∷ rest)
-  pub accepted : answer (after (itemState i) (flat (eventCalls (transportOf i) noRestart before))) (playCall (transportPast (transportOf i) before) (restartAt k) n) ≡ 0
+unfoldable pub waitingPast : RestartCodes → List Event → RestartCodes
+waitingPast waiting [] = waiting
+waitingPast waiting (Block frames ∷ es) = waitingPast noRestart es
+waitingPast waiting (Restart frame ∷ es) = waitingPast (restartAt frame) es
+waitingPast waiting (Bus k value ∷ es) = waitingPast waiting es
+waitingPast waiting (End ∷ es) = waitingPast waiting es
 
+-- A sitting with the events `before`, then a block of n frames that is accepted, and for which a restart waits.
+module _ (s : List ℕ) (i : ItemCodes) (next : ℕ) (before rest : List Event) (n : ℕ) where
+  abbrev pub statePlayed : State
+  statePlayed = after (itemState i) (flat (eventCalls (transportOf i) noRestart before))
+
+  abbrev pub transportThere : TransportCodes
+  transportThere = transportPast (transportOf i) before
+
+  abbrev pub waitingThere : RestartCodes
+  waitingThere = waitingPast noRestart before
+
+  pub record Taken : Type 0 where
+    pub is-read : acceptedItem s 0 ≡ read i next
+    pub events-are : script (drop next s) .events ≡ before ++ (Block n ∷ rest)
+    pub accepted : answer statePlayed (playCall transportThere waitingThere n) ≡ 0
+    pub waits : waitingThere .code ≡ 1
+
+  -- the restart that this block takes, and no other
+  pub record TakenBy (a : SittingRestart s) : Type 0 where
+    pub state-is : stateAt (a .restart) ≡ statePlayed
+    pub transport-is : a .restart .transport ≡ transportThere
+    pub frames-are : a .restart .frames ≡ n
+    pub restart-is : a .restart .restart ≡ waitingThere
+
+-- every restart that an accepted block of a sitting takes is a `SittingRestart`
 abbrev pub TakenRestart : Type 0
-TakenRestart = (s : List ℕ) (i : ItemCodes) (next : ℕ) (before rest : List Event) (k n : ℕ) → Taken s i next before rest k n → SittingRestart s
+TakenRestart =
+    (s : List ℕ) (i : ItemCodes) (next : ℕ) (before rest : List Event) (n : ℕ) → Taken s i next before rest n → (a : SittingRestart s) × TakenBy s i next before rest n a
 
 module _ {s : List ℕ} (a : SittingRestart s) where
   -- "Frames are counted through from 0": the index of the first line at or after the restart

@@ -1,8 +1,8 @@
 -- What is promised of the window through which standard input is read. Assumes nothing.
 use Prim.Native.Nat.{ℕ, _+_, _-_, _≤_}
 use mathlib.Core.Path.{_≡_}
-use mathlib.Core.Bool.{false}
 use mathlib.Core.List.{List}
+use lib.Dec.{eqb}
 use lib.ListN.{length, take, drop}
 use Rattle.printing.specs.declared.window.Filled.{Filled}
 
@@ -16,4 +16,4 @@ pub record Refills (window : List ℕ) (from have left : ℕ) (r : Filled) (wind
   pub counts : r .have + r .left ≡ (have - from) + left
   pub more : have - from ≤ r .have
   pub room : r .have ≤ length window′
-  pub goes-on : r .ended ≡ false → r .left + 1 ≤ left
+  pub ended-is : r .ended ≡ eqb (r .left) left

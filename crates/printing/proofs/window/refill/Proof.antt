@@ -4,9 +4,9 @@ use mathlib.Core.Path.{ap}
 use lib.ListN.{take}
 use denote.Ref.{now}
 use Rattle.printing.proofs.Shifted.{shifted-front}
+use Rattle.printing.proofs.Loop.{none-read}
 use mathlib.Core.Path.{_∙_}
 use native.Mathlib.Omega.{arith}
-use borrow.Author.Tests.{eqb-false}
 use borrow.Author.Needs.{needs}
 use Rattle.printing.proofs.window.refill.Statement.{statement}
 use Rattle.printing.proofs.window.refill.Tie as tie
@@ -43,7 +43,7 @@ returns c =
       counts = omega (arith, k .0, g .1);
       more = omega (arith, k .0);
       room = g .0;
-      goes-on = λ e. let some = eqb-false (c .before .before .before .before .before .read-more .result .count) 0 e in omega (arith, g .1);
+      ended-is = none-read (c .before .before .before .before .before .read-more .result .count) (a .left) (g .1);
     }
 
 pub refill-spec : {M : Type 1} → statement M
