@@ -1,4 +1,6 @@
 // The port of lfo/bank.rs, `render_parts`: a block of one voice, with a restart in it or without.
+#![tactic(auto)]
+
 mod parts;
 mod stretch;
 

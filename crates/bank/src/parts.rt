@@ -14,7 +14,7 @@ use settings::Settings;
 use voice::{Kept, Voice};
 
 // A restart asked for in a block, if any: just before this frame.
-#[derive(Drop)]
+#[derive(Clone, Copy)]
 pub enum Pending {
     None,
     At(usize),

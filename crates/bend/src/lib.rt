@@ -1,5 +1,7 @@
 // The strength of a bend, 2^(4 × curve), of a curve on a grid of 1/1024: an entry of a table, divided by a power of two and
 // rounded. It stands for `(point.curve * CURVE_RANGE).exp2()` of lfo/shape.rs.
+#![tactic(auto)]
+
 mod table;
 
 ghost use Rattle.std.specs.Prelude.{◌≡◌, ◌≤◌};

@@ -1,5 +1,7 @@
 // What calls hand in: settings, a transport, a shape, a path, a restart and an item as codes and numbers, any of them. A choice is a code, with the fields of all its cases
 // beside it; of a code that is not known, and of fields of a case that was not chosen, nothing is meant. Codes count from 0, in the order of the Rust's cases.
+#![tactic(auto)]
+
 ghost use Rattle.std.specs.Prelude.{◌≡◌, replicate};
 ghost use Rattle.codes.specs.Blanks.{blank_point, blank_path_point};
 
@@ -8,7 +10,7 @@ use points::{MAX_POINTS, POINT_BUSES};
 // ---- settings
 
 // A rate: code 0 goes with a division and a feel, code 1 with hertz and a yes or no for ×10.
-#[derive(Drop)]
+#[derive(Clone, Copy)]
 pub struct RateCodes {
     pub code: u64,
     pub division: u64,
@@ -18,7 +20,7 @@ pub struct RateCodes {
 }
 
 // A span: code 0 is none, code 1 goes with a division, code 2 with seconds.
-#[derive(Drop)]
+#[derive(Clone, Copy)]
 pub struct SpanCodes {
     pub code: u64,
     pub division: u64,
@@ -26,13 +28,13 @@ pub struct SpanCodes {
 }
 
 // A smoothing coefficient: code 0 where it is absent, and 1 where it is present.
-#[derive(Drop)]
+#[derive(Clone, Copy)]
 pub struct SmoothCodes {
     pub code: u64,
     pub coefficient: f32,
 }
 
-#[derive(Drop)]
+#[derive(Clone, Copy)]
 pub struct SettingsCodes {
     pub kind: u64,
     pub mode: u64,
@@ -51,13 +53,13 @@ pub struct SettingsCodes {
 // ---- a transport
 
 // A scale: what the percentage is of.
-#[derive(Drop)]
+#[derive(Clone, Copy)]
 pub struct ScaleCodes {
     pub code: u64,
     pub percent: f32,
 }
 
-#[derive(Drop)]
+#[derive(Clone, Copy)]
 pub struct TransportCodes {
     pub sample_rate: f64,
     pub tempo: f64,
@@ -72,7 +74,7 @@ pub struct TransportCodes {
 // ---- curves
 
 // A point-modulation input: code 0 where it is absent, and 1 where it is present.
-#[derive(Drop)]
+#[derive(Clone, Copy)]
 pub struct ModCodes {
     pub code: u64,
     pub bus: u8,
@@ -80,7 +82,7 @@ pub struct ModCodes {
 }
 
 // One point of a shape.
-#[derive(Drop)]
+#[derive(Clone, Copy)]
 pub struct PointCodes {
     pub x: f32,
     pub y: f32,
@@ -91,14 +93,14 @@ pub struct PointCodes {
 }
 
 // A loopback point, by its index: code 0 where it is absent, and 1 where it is present.
-#[derive(Drop)]
+#[derive(Clone, Copy)]
 pub struct LoopbackCodes {
     pub code: u64,
     pub index: u64,
 }
 
 // A shape of `count` points, of which the array begins with the first 64.
-#[derive(Drop)]
+#[derive(Clone, Copy)]
 pub struct ShapeCodes {
     pub points: [PointCodes; MAX_POINTS],
     pub count: usize,
@@ -106,7 +108,7 @@ pub struct ShapeCodes {
 }
 
 // One point of a path.
-#[derive(Drop)]
+#[derive(Clone, Copy)]
 pub struct PathPointCodes {
     pub x: f32,
     pub y: f32,
@@ -116,7 +118,7 @@ pub struct PathPointCodes {
 }
 
 // A path of `count` points, of which the array begins with the first 64, and a yes or no for closed.
-#[derive(Drop)]
+#[derive(Clone, Copy)]
 pub struct PathCodes {
     pub points: [PathPointCodes; MAX_POINTS],
     pub count: usize,
@@ -161,7 +163,7 @@ pub fn blank_path_points() -> [PathPointCodes; MAX_POINTS]
 // ---- a restart
 
 // The frame at which a block restarts: code 0 where it does not, and 1 where it does.
-#[derive(Drop)]
+#[derive(Clone, Copy)]
 pub struct RestartCodes {
     pub code: u64,
     pub frame: u64,
@@ -170,7 +172,7 @@ pub struct RestartCodes {
 // ---- an item
 
 // What a record holds (document 02, W-203).
-#[derive(Drop)]
+#[derive(Clone, Copy)]
 pub struct ItemCodes {
     pub settings: SettingsCodes,
     pub shape: ShapeCodes,

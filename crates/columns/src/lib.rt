@@ -1,4 +1,6 @@
 // A column of a buffer: every so many places one value.
+#![tactic(auto)]
+
 ghost use Rattle.std.specs.Prelude.{◌≡◌, ◌++◌, ◌*◌, take, drop, replicate};
 ghost use Rattle.std.specs.Float.{nan};
 ghost use Rattle.columns.specs.Columns.{strided, interleaved, Fits, FitAll};

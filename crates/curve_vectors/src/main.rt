@@ -3,6 +3,8 @@
 //
 // A curve is a line with its name, a line with its first eight strengths or legs, and a line for each position: the position, the value
 // there, and the value with the points moved by the buses. Our strengths and legs are handed to the Rust source.
+#![tactic(auto)]
+
 ghost use Rattle.std.specs.Prelude.{◌≤◌};
 
 use libc::STDOUT_FILENO;

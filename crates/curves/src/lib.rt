@@ -1,4 +1,6 @@
 // The shape and the path that a call hands in as codes and numbers.
+#![tactic(auto)]
+
 ghost use Rattle.std.specs.Prelude.{◌≡◌, ◌≤◌, replicate};
 ghost use Rattle.shape.specs.Points.{blank};
 ghost use Rattle.path.specs.Paths.{blank_path};

@@ -1,10 +1,12 @@
 // The divisions of a synced rate as the syllabus prints them: a table of fifteen lengths, each in bars or in beats. It stands for the
 // arms of `Division::beats` in lfo/mod.rs.
+#![tactic(auto)]
+
 ghost use Rattle.std.specs.Prelude.{◌≡◌, min};
 ghost use Rattle.divisions.specs.Lengths.{note_length, in_beats};
 
 // Bars follow the host's time signature; beats are quarter notes, whatever the signature.
-#[derive(Drop)]
+#[derive(Clone, Copy)]
 pub enum NoteLength {
     Bars(f64),
     Beats(f64),

@@ -2,6 +2,8 @@
 //
 // A block's page is what all voices read in a block, by value. The voices are a lent list of records. `turn` plays one of them: it is thin, and the
 // work is `played`, which takes a record by value. `turns` takes them one after the other, and `play_members` lends it a list that it has by value.
+#![tactic(auto)]
+
 mod page;
 mod playing;
 mod single;

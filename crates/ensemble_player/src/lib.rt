@@ -3,6 +3,8 @@
 //
 // The serving voice with the page is a player (crate player), and an edit of the ensemble is an edit of it.
 // `Valid` of specs/Ensembles.antt is what every ensemble has: `make` ensures it, and each other call asks it and keeps it.
+#![tactic(auto)]
+
 mod edits;
 mod making;
 mod phases;

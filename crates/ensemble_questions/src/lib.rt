@@ -1,4 +1,6 @@
 // The questions of an ensemble's calls: the number of the first one that a call fails, 0 where there is none.
+#![tactic(auto)]
+
 ghost use Rattle.std.specs.Prelude.{◌≡◌, ◌&&◌, ◌*◌, ◌≤◌, leb};
 ghost use Rattle.questions.specs.Questions.{first_no};
 ghost use Rattle.ensemble_calls.specs.Questions.{page_questions, make_questions, trigger_questions, voice_phase_questions, play_questions};

@@ -1,5 +1,7 @@
 // The exported function of an ensemble's run: a run's bytes in, and what its calls give out (docs/RUN.md, Ensembles). `output` of specs/Output.antt says what it
 // writes.
+#![tactic(auto)]
+
 mod block;
 mod calling;
 mod edits;

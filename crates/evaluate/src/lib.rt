@@ -1,5 +1,7 @@
 // The calls that evaluate a shape and a path (document 01), unmodulated, as an editor draws them, and the legs of a path (document 02,
 // W-202). They touch no player.
+#![tactic(auto)]
+
 ghost use Rattle.std.specs.Prelude.{◌≡◌};
 ghost use Rattle.evaluate.specs.Values.{shape_result_answer, evaluated_shape, path_result_answer, evaluated_path, evaluated_legs};
 

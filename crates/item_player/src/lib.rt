@@ -1,4 +1,6 @@
 // The player of an item: made with its settings and seed, and given its shape, its path and its buses by calls.
+#![tactic(auto)]
+
 ghost use Rattle.std.specs.Prelude.{◌≡◌};
 ghost use Rattle.calls.specs.Calls.{after};
 ghost use Rattle.player.specs.Player.{state_of, Valid};

@@ -1,5 +1,7 @@
 // Reading items from records (document 02, W-203). What is read at a place is `item` of crate record, what a record gives is `read_record`,
 // and an item with something behind it is `accepted_item` (crate record, specs/Reading.antt and specs/Records.antt).
+#![tactic(auto)]
+
 mod blanks;
 mod paths;
 mod records;

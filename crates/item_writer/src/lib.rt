@@ -1,5 +1,7 @@
 // Writing items as records (document 02, W-203): the questions first, then the numbers of the record in a list, then their bytes where there is room for all of them.
 // What is written is `written_to` of crate record (specs/Records.antt).
+#![tactic(auto)]
+
 mod buses;
 mod numbers;
 mod paths;

@@ -1,4 +1,6 @@
 // Reading and writing items under C names, for harness/ to link (docs/RUN.md, Items).
+#![tactic(auto)]
+
 mod reading;
 
 ghost use Rattle.std.specs.Prelude.{◌≡◌, ◌+◌, ◌*◌, ◌≤◌};

@@ -1,6 +1,8 @@
 // The legs of a path drawn on squared paper, 4,096 squares a side (document 02, W-202): for each leg the `f32` nearest to the root of the
 // sum of squares, judged by the squares of whole numbers. It stands for `(b.x - a.x).hypot(b.y - a.y)` of lfo/shape.rs. The products of
 // floats, which read a coordinate, are exact.
+#![tactic(auto)]
+
 ghost use Rattle.std.specs.Prelude.{◌≡◌, ◌^◌, ◌<◌, ◌≤◌};
 ghost use Rattle.leg.specs.Paper.{on_paper, squares_of, apart, sum_of_squares};
 ghost use Rattle.leg.specs.Root.{Half, IsLeg};

@@ -1,4 +1,6 @@
 // The port of lfo/shape.rs, the times and the segments of its XY path, ready to evaluate.
+#![tactic(auto)]
+
 mod timing;
 
 ghost use Rattle.std.specs.Prelude.{◌≡◌, ◌≤◌, ◌<◌, ◌-◌, ◌%◌};
@@ -12,7 +14,7 @@ pub const MAX_TIMES: usize = MAX_POINTS + 1;
 
 // One segment of an XY path: with `u = (t − t0) × inv_w` and `h = 4u(1 − u)`, `X = ax + u·dx + h·nx` and `Y = ay + u·dy + h·ny`
 // (a quadratic Bézier whose middle sits `n` from the chord's), valid for `lo ≤ t < hi`.
-#[derive(Drop)]
+#[derive(Clone, Copy)]
 pub struct PathSegment {
     pub lo: f32,
     pub hi: f32,

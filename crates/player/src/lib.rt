@@ -2,6 +2,8 @@
 // deck, all that a block changes, and the caller puts it in its place: `p.deck = r.deck`. A call that is refused gives back what it was handed.
 //
 // `Valid` of specs/Player.antt is what every player has: `make` ensures it, and each other call asks it and keeps it.
+#![tactic(auto)]
+
 mod edits;
 mod making;
 mod phases;

@@ -1,5 +1,7 @@
 // What the drawn shape and the XY path share of lfo/shape.rs: how many points are kept, where they are, how far a bus moves a
 // coordinate, and the search among ascending floats.
+#![tactic(auto)]
+
 ghost use Rattle.std.specs.Prelude.{◌≡◌, ◌≤◌, ◌<◌, min, length};
 ghost use Rattle.points.specs.Arrays.{partition_point};
 ghost use Rattle.points.specs.Modulation.{bus_value, offset_of, moved_of, placed_of};
@@ -11,7 +13,7 @@ pub const MAX_POINTS: usize = 64;
 pub const POINT_BUSES: usize = 16;
 
 // A point-modulation input on one coordinate of a point: the coordinate moves by `depth` times the value of bus `bus`.
-#[derive(Drop)]
+#[derive(Clone, Copy)]
 pub enum PointMod {
     None,
     Bus { bus: u8, depth: f32 },

@@ -5,7 +5,7 @@ ghost use Rattle.position.specs.Position.{odd_cycle, cyclic_of, forward_once, re
 use settings::{Direction, Mode};
 
 // Where a One-shot loops back to, if anywhere: 0 to 1.
-#[derive(Drop)]
+#[derive(Clone, Copy)]
 pub enum LoopPoint {
     None,
     At(f64),

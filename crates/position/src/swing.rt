@@ -3,7 +3,7 @@ ghost use Rattle.std.specs.Prelude.{◌≡◌};
 ghost use Rattle.position.specs.Position.{into_pair, swung_of};
 
 // The first cycle's share of each pair, when swinging.
-#[derive(Drop)]
+#[derive(Clone, Copy)]
 pub enum Swing {
     Off,
     First(f64),

@@ -1,6 +1,8 @@
 // The sheet of a sitting on standard input, printed on standard output as it is read. The input goes through a window and the text through a buffer, so that memory does not
 // grow with the sitting. What is printed is `Prints` of crate sittings: pieces are read, turns are taken by the bytes at hand, and where the input has ended what is still due is
 // written; so it is the sheet (`PrintsSheet`), however the input is cut into pieces.
+#![tactic(auto)]
+
 mod window;
 
 ghost use Rattle.std.specs.Prelude.{◌≤◌, ◌<◌, ◌^◌, ◌≡◌, true, false, length};

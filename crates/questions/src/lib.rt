@@ -1,4 +1,6 @@
 // The examiner's questions (document 01) that each call is put, and the number of the first one that it fails: 0 where there is none.
+#![tactic(auto)]
+
 mod curve_tests;
 mod floats;
 mod settings_tests;

@@ -1,6 +1,8 @@
 // The item as a file (document 02, W-203). The definitions are in specs/: what is read from bytes (Reading), an item's bytes (Writing), an item as it is kept (Kept), its
 // questions (Questions), the reader and the writer (Records); the theorems are in Promises. The code here puts the questions to an item; crates item_reader and
 // item_writer read and write records.
+#![tactic(auto)]
+
 ghost use Rattle.std.specs.Prelude.{◌≡◌};
 ghost use Rattle.record.specs.Items.{transport_of};
 ghost use Rattle.record.specs.Questions.{buses_finite, item_known, item_finite, item_answer};

@@ -2,6 +2,8 @@
 // line each, as hexadecimal digits: of a run its output, of a record and an item the number and then the bytes. The file `stdout` has what the Rust source, and of records
 // and items the harness's own reader and writer, give: harness/ wrote both, by `harness/run vectors runs`.
 // Crate `stored` says how a stored one looks; its kind is 0 for a run, 1 for a record, 2 for an item.
+#![tactic(auto)]
+
 ghost use Rattle.std.specs.Prelude.{◌≤◌};
 
 use libc::{STDIN_FILENO, STDOUT_FILENO};

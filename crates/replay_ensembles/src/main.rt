@@ -1,5 +1,7 @@
 // Plays the stored runs of ensembles of the file `stdin` and shows what `lfo_ensemble_run` gives, a line each, as hexadecimal digits. The file `stdout` has what the
 // Rust source gives: harness/ wrote both, by `harness/run vectors ensembles`. Crate `stored` says how a stored one looks; its kind is 0.
+#![tactic(auto)]
+
 ghost use Rattle.std.specs.Prelude.{◌≤◌};
 
 use libc::STDIN_FILENO;

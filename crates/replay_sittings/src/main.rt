@@ -1,5 +1,7 @@
 // Plays the stored sittings of the file `stdin`, each its byte count as a record number and then its bytes, and prints their sheets, each with an empty line behind it. The file
 // `stdout` has what the harness's own reader and the Rust source give: harness/ wrote both, by `harness/run vectors sittings`.
+#![tactic(auto)]
+
 use libc::{STDIN_FILENO, STDOUT_FILENO};
 use number::Reading;
 

@@ -1,4 +1,6 @@
 // What a call gives, written: numbers one behind the other, then the bits of floats. All of it is written, or nothing where there is no room.
+#![tactic(auto)]
+
 ghost use Rattle.std.specs.Prelude.{◌≡◌, ◌+◌, ◌≤◌, length};
 ghost use Rattle.std.specs.Float.Ieee.{to_bits};
 ghost use Rattle.std.specs.Float.{binary32};

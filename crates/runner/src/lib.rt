@@ -1,4 +1,6 @@
 // The exported function: a run's bytes in, and what its calls give out (docs/RUN.md). `output` of specs/Output.antt says what it writes.
+#![tactic(auto)]
+
 mod block;
 mod calling;
 mod edits;

@@ -5,7 +5,7 @@ ghost use Rattle.shape.specs.Points.{new_point, bent_point, stepped_point, blank
 use points::{MAX_POINTS, PointMod};
 
 // One point of a drawn shape, and the segment that starts at it.
-#[derive(Drop)]
+#[derive(Clone, Copy)]
 pub struct Point {
     // Where in the cycle, 0 to 1.
     pub x: f32,

@@ -1,11 +1,13 @@
 // The port of lfo/shape.rs, the segments of its drawn shape, ready to evaluate.
+#![tactic(auto)]
+
 ghost use Rattle.std.specs.Prelude.{◌≡◌, ◌≤◌};
 ghost use Rattle.shape_segments.specs.Segments.{empty_segment, hold_of, between_of, contains_of, u_of, eval_of, curve_of, segment_at, drawn_segment};
 
 use points::MAX_POINTS;
 
 // One segment of a drawn shape: `y = y0 + dy × u / (u + (1 − u) × e)` with `u = (x − x0) × inv_w`, valid for `lo ≤ x < hi`.
-#[derive(Drop)]
+#[derive(Clone, Copy)]
 pub struct Segment {
     pub lo: f32,
     pub hi: f32,

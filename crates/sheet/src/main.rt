@@ -1,6 +1,8 @@
 // Prints the sheet of document 01: each frame's index, and its x and y as the bits of f32. Of a refused call it prints the answer alone.
 //
 // Its item: the default shape, strengths 1, Restart, 250 Hz with ×10, sample rate 1,000, scale 100 percent, phase 0, no smoothing, no restart, 4 frames.
+#![tactic(auto)]
+
 use codes::{
     RateCodes, RestartCodes, ScaleCodes, SettingsCodes, SmoothCodes, SpanCodes, TransportCodes,
 };

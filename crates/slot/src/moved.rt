@@ -9,7 +9,7 @@ use settings::LfoType;
 use shape::{Loopback, Shape};
 
 // A shape's points with the strengths and the steps of its segments, or a path's with their bends.
-#[derive(Drop)]
+#[derive(Clone, Copy)]
 pub struct Lists {
     pub xs: [f32; MAX_POINTS],
     pub ys: [f32; MAX_POINTS],

@@ -9,7 +9,7 @@ use settings::Settings;
 use shape::Shape;
 
 // A slot's settings, curves and bus values, and the points of the settings' type as the buses move them.
-#[derive(Drop)]
+#[derive(Clone, Copy)]
 pub struct Page {
     pub settings: Settings,
     pub shape: Shape,

@@ -2,6 +2,8 @@
 // as hexadecimal digits.
 //
 // A stored one is its length and the length of the output that it is given, two bytes each, lower first, its kind, and then its bytes.
+#![tactic(auto)]
+
 ghost use Rattle.std.specs.Prelude.{◌≤◌};
 
 use libc::{STDIN_FILENO, STDOUT_FILENO};

@@ -3,6 +3,8 @@
 // A sitting goes in by value and comes back. `take_turns` plays what the bytes at hand decide, prints it into a buffer, and says how many bytes it took. A program
 // hands it the rest again with more behind it, and where the input has ended has `last_text` print what is still due. That what is printed is the sheet, however the input is cut
 // into pieces, is `PrintsSheet` of crate sittings.
+#![tactic(auto)]
+
 mod beginning;
 mod steps;
 

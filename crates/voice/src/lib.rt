@@ -3,6 +3,8 @@
 // A voice is an anchor, from which its cycle count comes, a source, which generates values at a count, and an output, which delays, fades in
 // and smooths them. A frame is `count`, `Anchor::next`, `generate` and `put`, one after the other; `specs/Frame.antt` says what it gives. The
 // segments that the last search found, `Kept`, stand beside the voice: no value depends on them.
+#![tactic(auto)]
+
 mod begun;
 mod generator;
 mod output;

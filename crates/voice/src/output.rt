@@ -6,7 +6,7 @@ ghost use Rattle.voice.specs.Output.{new_output, gain_of, later_of, captured_of,
 use settings::{LfoType, Smooth};
 
 // One output: the value from which it fades in, and its last value, from which it is smoothed.
-#[derive(Drop)]
+#[derive(Clone, Copy)]
 pub struct Channel {
     pub start: f32,
     pub smoothed: f32,

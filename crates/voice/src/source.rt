@@ -4,7 +4,7 @@ ghost use Rattle.voice.specs.Source.{new_source, same_cycle, sampled_of};
 
 use chaos::{Law, State};
 
-#[derive(Drop)]
+#[derive(Clone, Copy)]
 pub struct Source {
     // The random generator's word.
     pub rng: u64,

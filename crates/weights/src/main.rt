@@ -3,6 +3,8 @@
 //
 // They are the x of a block. A sample's x is raw × weight + start × (1 − weight), and start is the raw value of the first sample after the restart.
 // The shape here is 0 at that sample, whose weight is 0, and 1 at the others: x is the weight.
+#![tactic(auto)]
+
 use codes::{
     LoopbackCodes, ModCodes, PointCodes, RateCodes, RestartCodes, ScaleCodes, SettingsCodes,
     ShapeCodes, SmoothCodes, SpanCodes, TransportCodes,
