@@ -20,7 +20,7 @@ use slot::Lists;
 use voice::Voice;
 
 // What all voices read in a block: the settings, the block's constants, the points as moved by the buses, and how many frames and voices it has.
-#[derive(Drop)]
+#[derive(Clone, Copy)]
 pub struct BlockPage {
     pub settings: Settings,
     pub block: Block,
@@ -34,7 +34,7 @@ pub struct BlockPage {
 }
 
 // One voice of an ensemble: its state, the restart asked for in its next block, if any, and whether its last block ended a One-shot.
-#[derive(Drop)]
+#[derive(Clone, Copy)]
 pub struct Member {
     pub voice: Voice,
     pub pending: Pending,

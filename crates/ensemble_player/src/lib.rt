@@ -29,7 +29,7 @@ const MAX_VOICES: usize = 16;
 
 // What a block changes: the serving voice's deck, with the clock of all and the frames played; the greatest frame asked for since the last block, if any; and
 // the voices.
-#[derive(Drop)]
+#[derive(Clone, Copy)]
 pub struct Decks {
     pub server: Deck,
     pub asked: Pending,
@@ -37,7 +37,7 @@ pub struct Decks {
 }
 
 // What calls set, and whether the serving voice plays for all; how many voices there are, the first of those on the decks; and what a block changes.
-#[derive(Drop)]
+#[derive(Clone, Copy)]
 pub struct Ensemble {
     pub page: Page,
     pub shared: bool,

@@ -18,7 +18,7 @@ use slot::Page;
 use voice::{Kept, Voice};
 
 // What a block changes: the free clock, the voice, the segments that its last search found, and the frames played since the player was made.
-#[derive(Drop)]
+#[derive(Clone, Copy)]
 pub struct Deck {
     pub clock: Clock,
     pub voice: Voice,
@@ -27,7 +27,7 @@ pub struct Deck {
 }
 
 // A player: what a block reads, and what it changes.
-#[derive(Drop)]
+#[derive(Clone, Copy)]
 pub struct Player {
     pub page: Page,
     pub deck: Deck,

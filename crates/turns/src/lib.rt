@@ -14,7 +14,7 @@ use player::Player;
 pub use steps::{last_text, take_turns};
 
 // How far a sitting has come.
-#[derive(Drop)]
+#[derive(Clone, Copy)]
 pub enum Progress {
     // Before the item; player, transport and the rest say nothing yet.
     Opening,

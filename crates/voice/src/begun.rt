@@ -10,7 +10,7 @@ use clock::{Anchor, Block};
 use settings::{LfoType, Mode, Settings};
 
 // The type that a voice last began a stretch for, if any.
-#[derive(Drop)]
+#[derive(Clone, Copy)]
 pub enum MadeFor {
     None,
     For(LfoType),

@@ -16,7 +16,7 @@ use settings::{Direction, LfoType, Mode};
 use shape_segments::Segment;
 
 // The segments that the last search found.
-#[derive(Drop)]
+#[derive(Clone, Copy)]
 pub struct Kept {
     pub seg: Segment,
     pub path_seg: PathSegment,

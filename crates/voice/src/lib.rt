@@ -22,7 +22,7 @@ pub use restart::trigger;
 pub use source::Source;
 
 // One voice's state for an LFO slot.
-#[derive(Drop)]
+#[derive(Clone, Copy)]
 pub struct Voice {
     pub anchor: Anchor,
     pub source: Source,

@@ -12,7 +12,7 @@ pub struct Channel {
     pub smoothed: f32,
 }
 
-#[derive(Drop)]
+#[derive(Clone, Copy)]
 pub struct Output {
     // Samples since the last restart; 2^64 - 1 for a voice that had none.
     pub t: u64,
