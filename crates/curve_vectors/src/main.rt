@@ -7,12 +7,13 @@
 
 ghost use Rattle.std.specs.Prelude.{◌≤◌};
 
-use libc::STDOUT_FILENO;
 use path::{Path, PathPoint};
 use path_segments::{Xy, path_segment};
 use points::PointMod;
 use shape::{Point, Shape};
 use shape_segments::drawn_segment;
+use std::io;
+use std::io::{BufWriter, Write};
 
 // Where shapes and paths are evaluated. 5e-41 lies inside the gap of `tiny_gap`.
 const AT: [f32; 13] = [
@@ -23,22 +24,22 @@ const BUSES: [f32; 16] = [
     1.0, -1.0, 0.5, 0.25, 0.1, -0.3, 3.0e38, 0.0, -0.0, 2.0, 0.7, -0.6, 0.01, 1.0e-30, 100.0, -0.5,
 ];
 
-fn show(text: &[u8]) {
-    io::write_all(STDOUT_FILENO, text);
+fn show<W: Write>(to: &mut W, text: &[u8]) -> io::Result<()> {
+    to.write_all(text)
 }
 
 // The bits of `x`, 7fc00000 for a NaN, and a blank.
-fn show_float(x: f32) {
-    io::print_hex(STDOUT_FILENO, floatbits::bits_of_f32(x), 8);
-    show(b" ");
+fn show_float<W: Write>(to: &mut W, x: f32) -> io::Result<()> {
+    write!(to, "{:08x}", floatbits::bits_of_f32(x))?;
+    show(to, b" ")
 }
 
 // One line: the first eight.
-fn show_eight(list: [f32; 64]) {
+fn show_eight<W: Write>(to: &mut W, list: [f32; 64]) -> io::Result<()> {
     for i in 0..8usize {
-        show_float(list[i]);
+        show_float(to, list[i])?;
     }
-    show(b"\n");
+    show(to, b"\n")
 }
 
 // ---- shapes
@@ -57,29 +58,30 @@ fn moved_value(s: Shape, x: f32) -> f32
     drawn_segment(&xs, &ys, &es, &steps, s.len, x).eval(x)
 }
 
-fn show_value(s: Shape, x: f32)
+fn show_value<W: Write>(to: &mut W, s: Shape, x: f32) -> io::Result<()>
     requires { s.len ≤ 64 }
 {
-    show_float(x);
-    show_float(s.value(x));
-    show_float(moved_value(s, x));
-    show(b"\n");
+    show_float(to, x)?;
+    show_float(to, s.value(x))?;
+    show_float(to, moved_value(s, x))?;
+    show(to, b"\n")
 }
 
-fn show_values(s: Shape)
+fn show_values<W: Write>(to: &mut W, s: Shape) -> io::Result<()>
     requires { s.len ≤ 64 }
 {
     for i in 0..13usize {
-        show_value(s, AT[i]);
+        show_value(to, s, AT[i])?;
     }
+    Ok(())
 }
 
-fn show_shape(points: [Point; 64], count: usize) {
+fn show_shape<W: Write>(to: &mut W, points: [Point; 64], count: usize) -> io::Result<()> {
     let s = Shape::new(points, count);
     let curves = s.curves();
     let es = curves.es;
-    show_eight(es);
-    show_values(s);
+    show_eight(to, es)?;
+    show_values(to, s)
 }
 
 fn no_points() -> [Point; 64] {
@@ -115,26 +117,26 @@ fn moving(p: Point, x_bus: u8, x_depth: f32, y_bus: u8, y_depth: f32) -> Point {
     }
 }
 
-fn default_shape() {
-    show(b"default shape\n");
-    show_values(Shape::default());
+fn default_shape<W: Write>(to: &mut W) -> io::Result<()> {
+    show(to, b"default shape\n")?;
+    show_values(to, Shape::default())
 }
 
-fn empty_shape() {
-    show(b"empty shape\n");
-    show_shape(no_points(), 0);
+fn empty_shape<W: Write>(to: &mut W) -> io::Result<()> {
+    show(to, b"empty shape\n")?;
+    show_shape(to, no_points(), 0)
 }
 
-fn one_point() {
-    show(b"one point\n");
+fn one_point<W: Write>(to: &mut W) -> io::Result<()> {
+    show(to, b"one point\n")?;
     let mut p = no_points();
     p[0] = bent(0.25, 0.75, 0.5);
-    show_shape(p, 1);
+    show_shape(to, p, 1)
 }
 
 // At an x of several points the last of them starts the segment. Each has a bend of its own.
-fn equal_x() {
-    show(b"equal x\n");
+fn equal_x<W: Write>(to: &mut W) -> io::Result<()> {
+    show(to, b"equal x\n")?;
     let mut p = no_points();
     p[0] = bent(0.0, 0.9, 1.0);
     p[1] = bent(0.0, 0.2, 0.25);
@@ -143,21 +145,21 @@ fn equal_x() {
     p[4] = bent(0.5, 0.75, 0.5);
     p[5] = bent(1.0, 0.5, -1.0);
     p[6] = bent(1.0, 0.1, -0.5);
-    show_shape(p, 7);
+    show_shape(to, p, 7)
 }
 
-fn steps() {
-    show(b"steps\n");
+fn steps<W: Write>(to: &mut W) -> io::Result<()> {
+    show(to, b"steps\n")?;
     let mut p = no_points();
     p[0] = stepped(0.1, 0.1);
     p[1] = bent(0.25, 0.6, 0.5).step();
     p[2] = Point::new(0.75, 0.9);
     p[3] = stepped(0.9, 0.0);
-    show_shape(p, 4);
+    show_shape(to, p, 4)
 }
 
-fn bends() {
-    show(b"bends\n");
+fn bends<W: Write>(to: &mut W) -> io::Result<()> {
+    show(to, b"bends\n")?;
     let mut p = no_points();
     p[0] = bent(0.0, 0.0, 0.25);
     p[1] = bent(0.2, 1.0, -0.25);
@@ -167,12 +169,12 @@ fn bends() {
     p[5] = bent(0.72, 0.7, -1.0);
     p[6] = bent(0.8, 0.05, 0.2998046875);
     p[7] = Point::new(1.0, 1.0);
-    show_shape(p, 8);
+    show_shape(to, p, 8)
 }
 
 // Multiples of 1/1024 within an octave: the 22nd, 24th and 165th, at which the Rust's exp2 has another last bit, and those next to the ends.
-fn fine_bends() {
-    show(b"fine bends\n");
+fn fine_bends<W: Write>(to: &mut W) -> io::Result<()> {
+    show(to, b"fine bends\n")?;
     let mut p = no_points();
     p[0] = bent(0.0, 0.0, 0.0234375);
     p[1] = bent(0.2, 1.0, 0.4111328125);
@@ -182,12 +184,12 @@ fn fine_bends() {
     p[5] = bent(0.72, 0.7, -0.9990234375);
     p[6] = bent(0.8, 0.05, -0.4765625);
     p[7] = bent(1.0, 1.0, 0.0009765625);
-    show_shape(p, 8);
+    show_shape(to, p, 8)
 }
 
 // Out of range and out of order: x of 0, 0.5 and 1 come about twice or more by clamping and sorting.
-fn unsorted() {
-    show(b"unsorted\n");
+fn unsorted<W: Write>(to: &mut W) -> io::Result<()> {
+    show(to, b"unsorted\n")?;
     let mut p = no_points();
     p[0] = bent(1.5, 0.3, 0.25);
     p[1] = bent(0.5, 2.0, 3.0);
@@ -197,33 +199,33 @@ fn unsorted() {
     p[5] = bent(-2.0, 0.8, -7.0);
     p[6] = bent(1.0, 0.9, -0.5);
     p[7] = stepped(0.8, 0.2);
-    show_shape(p, 8);
+    show_shape(to, p, 8)
 }
 
-fn negative_zeros() {
-    show(b"negative zeros\n");
+fn negative_zeros<W: Write>(to: &mut W) -> io::Result<()> {
+    show(to, b"negative zeros\n")?;
     let mut p = no_points();
     p[0] = Point::new(0.0, -0.0);
     p[1] = bent(-0.0, -0.0, -0.0);
     p[2] = stepped(0.5, -0.0);
     p[3] = Point::new(0.75, -0.0);
     p[4] = Point::new(1.0, -0.0);
-    show_shape(p, 5);
+    show_shape(to, p, 5)
 }
 
 // A gap of less than 2^-128: the reciprocal of its width is infinite.
-fn tiny_gap() {
-    show(b"tiny gap\n");
+fn tiny_gap<W: Write>(to: &mut W) -> io::Result<()> {
+    show(to, b"tiny gap\n")?;
     let mut p = no_points();
     p[0] = Point::new(0.0, 0.25);
     p[1] = Point::new(1.0e-40, 0.75);
     p[2] = Point::new(1.0, 0.5);
-    show_shape(p, 3);
+    show_shape(to, p, 3)
 }
 
 // Points pushed beyond their neighbours and the ends, by products that overflow, and by buses that are not there.
-fn moving_points() {
-    show(b"moving points\n");
+fn moving_points<W: Write>(to: &mut W) -> io::Result<()> {
+    show(to, b"moving points\n")?;
     let mut p = no_points();
     p[0] = moving(bent(0.0, 0.5, 0.5), 4, 0.5, 5, 1.0);
     p[1] = moving(stepped(0.2, 0.1), 2, 0.3, 13, 1.0);
@@ -233,7 +235,7 @@ fn moving_points() {
     p[5] = stepped(0.8, -0.0);
     p[6] = moving(bent(0.9, 0.6, 0.25), 6, 10.0, 15, 0.4);
     p[7] = moving(stepped(1.0, 0.3), 11, 0.2, 9, 0.2);
-    show_shape(p, 8);
+    show_shape(to, p, 8)
 }
 
 // 64 points, from right to left.
@@ -250,9 +252,9 @@ fn leftward() -> [Point; 64] {
 }
 
 // The first 64 of 70 points.
-fn many_points() {
-    show(b"many points\n");
-    show_shape(leftward(), 70);
+fn many_points<W: Write>(to: &mut W) -> io::Result<()> {
+    show(to, b"many points\n")?;
+    show_shape(to, leftward(), 70)
 }
 
 // ---- paths
@@ -270,31 +272,37 @@ fn moved_outputs(p: Path, t: f32) -> Xy
     path_segment(&xs, &ys, &bends, &times, p.len, p.closed, t).eval(t)
 }
 
-fn show_outputs(p: Path, t: f32)
+fn show_outputs<W: Write>(to: &mut W, p: Path, t: f32) -> io::Result<()>
     requires { p.len ≤ 64 }
 {
     let drawn = p.value(t);
     let moved = moved_outputs(p, t);
-    show_float(t);
-    show_float(drawn.x);
-    show_float(drawn.y);
-    show_float(moved.x);
-    show_float(moved.y);
-    show(b"\n");
+    show_float(to, t)?;
+    show_float(to, drawn.x)?;
+    show_float(to, drawn.y)?;
+    show_float(to, moved.x)?;
+    show_float(to, moved.y)?;
+    show(to, b"\n")
 }
 
-fn show_travel(p: Path)
+fn show_travel<W: Write>(to: &mut W, p: Path) -> io::Result<()>
     requires { p.len ≤ 64 }
 {
     for i in 0..13usize {
-        show_outputs(p, AT[i]);
+        show_outputs(to, p, AT[i])?;
     }
+    Ok(())
 }
 
-fn show_path(points: [PathPoint; 64], count: usize, closed: bool) {
+fn show_path<W: Write>(
+    to: &mut W,
+    points: [PathPoint; 64],
+    count: usize,
+    closed: bool,
+) -> io::Result<()> {
     let p = Path::new(points, count, closed);
-    show_eight(p.legs());
-    show_travel(p);
+    show_eight(to, p.legs())?;
+    show_travel(to, p)
 }
 
 fn no_path_points() -> [PathPoint; 64] {
@@ -330,78 +338,78 @@ fn moving_along(p: PathPoint, x_bus: u8, x_depth: f32, y_bus: u8, y_depth: f32) 
     }
 }
 
-fn default_path() {
-    show(b"default path\n");
-    show_travel(Path::default());
+fn default_path<W: Write>(to: &mut W) -> io::Result<()> {
+    show(to, b"default path\n")?;
+    show_travel(to, Path::default())
 }
 
-fn empty_path() {
-    show(b"empty path\n");
-    show_path(no_path_points(), 0, true);
+fn empty_path<W: Write>(to: &mut W) -> io::Result<()> {
+    show(to, b"empty path\n")?;
+    show_path(to, no_path_points(), 0, true)
 }
 
-fn one_path_point() {
-    show(b"path of one point\n");
+fn one_path_point<W: Write>(to: &mut W) -> io::Result<()> {
+    show(to, b"path of one point\n")?;
     let mut p = no_path_points();
     p[0] = moving_along(bowed(0.25, 0.75, 1.0), 2, 1.0, 3, -1.0);
-    show_path(p, 1, true);
+    show_path(to, p, 1, true)
 }
 
 // Three points with legs of 1, 1/2 and, where it is closed, the way back.
-fn bent_path(closed: bool) {
+fn bent_path<W: Write>(to: &mut W, closed: bool) -> io::Result<()> {
     let mut p = no_path_points();
     p[0] = bowed(1.0, 1.0, 0.5);
     p[1] = bowed(0.0, 1.0, -1.0);
     p[2] = bowed(0.0, 0.5, 0.25);
-    show_path(p, 3, closed);
+    show_path(to, p, 3, closed)
 }
 
-fn open_path() {
-    show(b"open path\n");
-    bent_path(false);
+fn open_path<W: Write>(to: &mut W) -> io::Result<()> {
+    show(to, b"open path\n")?;
+    bent_path(to, false)
 }
 
-fn closed_path() {
-    show(b"closed path\n");
-    bent_path(true);
+fn closed_path<W: Write>(to: &mut W) -> io::Result<()> {
+    show(to, b"closed path\n")?;
+    bent_path(to, true)
 }
 
 // Out of range points are clamped to the edges of the paper and keep their order; the second leg has no length.
-fn clamped_path() {
-    show(b"clamped path\n");
+fn clamped_path<W: Write>(to: &mut W) -> io::Result<()> {
+    show(to, b"clamped path\n")?;
     let mut p = no_path_points();
     p[0] = bowed(2.0, -0.5, 3.0);
     p[1] = bowed(0.25, 0.40625, 0.0);
     p[2] = bowed(0.25, 0.40625, 1.0);
     p[3] = bowed(-0.0, 7.0, -0.3);
-    show_path(p, 4, true);
+    show_path(to, p, 4, true)
 }
 
 // With no length every segment takes as long as the others.
-fn path_of_no_length() {
-    show(b"path of no length\n");
+fn path_of_no_length<W: Write>(to: &mut W) -> io::Result<()> {
+    show(to, b"path of no length\n")?;
     let mut p = no_path_points();
     p[0] = moving_along(bowed(0.5, 0.5, 0.0), 0, 0.25, 7, 1.0);
     p[1] = moving_along(bowed(0.5, 0.5, 1.0), 8, 1.0, 1, 0.5);
     p[2] = moving_along(bowed(0.5, 0.5, -0.5), 4, -5.0, 4, 1.0);
-    show_path(p, 3, true);
+    show_path(to, p, 3, true)
 }
 
 // The buses move the points and not the times. Two points are reached at 0.75, of which the last starts the segment.
-fn moving_path() {
-    show(b"moving path\n");
+fn moving_path<W: Write>(to: &mut W) -> io::Result<()> {
+    show(to, b"moving path\n")?;
     let mut p = no_path_points();
     p[0] = moving_along(bowed(0.0, 0.0, 0.5), 9, 0.1, 6, -10.0);
     p[1] = moving_along(bowed(0.375, 0.5, -0.5), 5, 0.5, 6, 10.0);
     p[2] = moving_along(bowed(0.375, 1.0, 0.75), 16, 1.0, 255, -1.0);
     p[3] = moving_along(bowed(0.375, 1.0, -0.25), 4, 2.0, 15, 0.5);
     p[4] = moving_along(bowed(-0.0, 1.0, 0.1), 7, -1.0, 8, 1.0);
-    show_path(p, 5, false);
+    show_path(to, p, 5, false)
 }
 
 // Legs of 2,897 and 2,898 squares, whose last digit a float formula gets wrong, of 1 square and of its diagonal, and between far corners.
-fn fine_path() {
-    show(b"fine path\n");
+fn fine_path<W: Write>(to: &mut W) -> io::Result<()> {
+    show(to, b"fine path\n")?;
     let mut p = no_path_points();
     p[0] = bowed(-0.0, 0.0, 0.0);
     p[1] = bowed(0.707275390625, 0.70751953125, 0.5);
@@ -410,7 +418,7 @@ fn fine_path() {
     p[4] = bowed(1.0, 0.999755859375, 0.0);
     p[5] = bowed(0.000244140625, 1.0, 1.0);
     p[6] = bowed(0.78369140625, 0.004150390625, -1.0);
-    show_path(p, 7, true);
+    show_path(to, p, 7, true)
 }
 
 // 64 points, from right to left, each leg one square higher than the one before.
@@ -429,32 +437,33 @@ fn rising() -> [PathPoint; 64] {
 }
 
 // The first 64 of 70 points; the last leg goes from the 64th back to the first.
-fn many_path_points() {
-    show(b"many path points\n");
-    show_path(rising(), 70, true);
+fn many_path_points<W: Write>(to: &mut W) -> io::Result<()> {
+    show(to, b"many path points\n")?;
+    show_path(to, rising(), 70, true)
 }
 
-fn main() {
-    default_shape();
-    empty_shape();
-    one_point();
-    equal_x();
-    steps();
-    bends();
-    fine_bends();
-    unsorted();
-    negative_zeros();
-    tiny_gap();
-    moving_points();
-    many_points();
-    default_path();
-    empty_path();
-    one_path_point();
-    open_path();
-    closed_path();
-    clamped_path();
-    path_of_no_length();
-    moving_path();
-    fine_path();
-    many_path_points();
+fn main(rt: HostRuntime) -> io::Result<()> {
+    let mut to = BufWriter::new(rt.alloc(), io::writer(&rt))?;
+    default_shape(&mut to)?;
+    empty_shape(&mut to)?;
+    one_point(&mut to)?;
+    equal_x(&mut to)?;
+    steps(&mut to)?;
+    bends(&mut to)?;
+    fine_bends(&mut to)?;
+    unsorted(&mut to)?;
+    negative_zeros(&mut to)?;
+    tiny_gap(&mut to)?;
+    moving_points(&mut to)?;
+    many_points(&mut to)?;
+    default_path(&mut to)?;
+    empty_path(&mut to)?;
+    one_path_point(&mut to)?;
+    open_path(&mut to)?;
+    closed_path(&mut to)?;
+    clamped_path(&mut to)?;
+    path_of_no_length(&mut to)?;
+    moving_path(&mut to)?;
+    fine_path(&mut to)?;
+    many_path_points(&mut to)
 }

@@ -1,4 +1,4 @@
-// The sheet of a sitting on standard input, printed on standard output as it is read. The input goes through a window and the text through a buffer, so that memory does not
+// The sheet of a sitting on an input, printed on an output as it is read. The input goes through a window and the text through a buffer, so that memory does not
 // grow with the sitting. What is printed is `Prints` of crate sittings: pieces are read, turns are taken by the bytes at hand, and where the input has ended what is still due is
 // written; so it is the sheet (`PrintsSheet`), however the input is cut into pieces.
 #![tactic(auto)]
@@ -6,11 +6,14 @@
 mod window;
 
 ghost use Rattle.std.specs.Prelude.{◌≤◌, ◌<◌, ◌^◌, ◌≡◌, true, false, length};
-ghost use Rattle.turns.specs.Turns.{is_over, turn_room};
+ghost use Rattle.turns.specs.Turns.{is_over, turnRoom};
 
-use libc::STDOUT_FILENO;
+use std::io::{Read, Write};
 use turns::{Progress, Sitting};
 use window::{least, refill};
+
+// The bytes of the window.
+const SPAN: usize = 65536;
 
 // The text of two blocks at least.
 const ROOM: usize = 319488;
@@ -18,27 +21,36 @@ const ROOM: usize = 319488;
 // More bytes than any input has. Their events can be counted.
 const MOST: u64 = 0x8000_0000_0000_0000;
 
-// Writes the first `n` bytes, and answers whether to go on: not where standard output is closed, or nothing more is printed.
-fn print_some(out: &[u8], n: usize, progress: Progress) -> bool
+// Writes the first `n` bytes, and answers whether to go on: not where the output is closed, or nothing more is printed.
+fn print_some<W: Write>(to: &mut W, out: &[u8], n: usize, progress: Progress) -> bool
     requires { n ≤ length out.now }
     ensures { result ≡ true → is_over progress ≡ false }
 {
-    if !io::write_all(STDOUT_FILENO, &out[..n]) {
+    if to.write_all(&out[..n]).is_err() {
         return false;
     }
     !turns::is_over(progress)
 }
 
 // Writes what is still due where the input has ended.
-fn print_last(t: Sitting, s: &[u8], out: &mut [u8])
-    requires { (turn_room ≤ length out.old) × (t.index < 2 ^ 64) }
+fn print_last<W: Write>(to: &mut W, t: Sitting, s: &[u8], out: &mut [u8])
+    requires { (turnRoom ≤ length out.old) × (t.index < 2 ^ 64) }
 {
     let n = turns::last_text(t, s, out);
-    io::write_all(STDOUT_FILENO, &out[..n]);
+    let _ = to.write_all(&out[..n]);
 }
 
 // Prints through a window and buffers that are lent.
-fn print_through(window: &mut [u8], x: &mut [f32], y: &mut [f32], out: &mut [u8], most: u64) -> u64
+fn print_through<R: Read, W: Write, E: Write>(
+    input: &mut R,
+    to: &mut W,
+    errors: &mut E,
+    window: &mut [u8],
+    x: &mut [f32],
+    y: &mut [f32],
+    out: &mut [u8],
+    most: u64,
+) -> u64
     requires { (length window.old ≡ 65536) × (length x.old ≡ 4096) × (length y.old ≡ 4096) × (length out.old ≡ 319488) }
     ensures { result ≤ most }
 {
@@ -53,11 +65,11 @@ fn print_through(window: &mut [u8], x: &mut [f32], y: &mut [f32], out: &mut [u8]
         let progress = next.progress;
         sitting = next;
         from += r.taken;
-        if !print_some(out, r.written, progress) {
+        if !print_some(to, out, r.written, progress) {
             return left;
         }
         if !r.full {
-            let f = refill(window, from, have, left);
+            let f = refill(input, errors, window, from, have, left);
             from = 0;
             have = f.have;
             left = f.left;
@@ -67,7 +79,7 @@ fn print_through(window: &mut [u8], x: &mut [f32], y: &mut [f32], out: &mut [u8]
             }
         }
     }
-    print_last(sitting, &window[from..have], out);
+    print_last(to, sitting, &window[from..have], out);
     left
 }
 
@@ -78,20 +90,40 @@ fn zeros() -> [f32; 4096]
     [0.0; 4096]
 }
 
+fn window_buffer() -> [u8; SPAN]
+    ensures { length result ≡ 65536 }
+{
+    [0; SPAN]
+}
+
 fn text_buffer() -> [u8; ROOM]
     ensures { length result ≡ 319488 }
 {
     [0; ROOM]
 }
 
-// Prints the sheet of the sitting in the next `most` bytes of standard input, or in all where there are fewer. Answers how many of these bytes it has not read: it stops at the
-// first fault, and where standard output is closed.
-pub fn print_sheet(most: u64) -> u64
+// Prints on `to` the sheet of the sitting in the next `most` bytes of `input`, or in all where there are fewer, and words on a read that fails on `errors`. Answers how many of
+// these bytes it has not read: it stops at the first fault, and where `to` is closed.
+pub fn print_sheet<R: Read, W: Write, E: Write>(
+    input: &mut R,
+    to: &mut W,
+    errors: &mut E,
+    most: u64,
+) -> u64
     ensures { result ≤ most }
 {
-    let mut window = io::large_buffer();
+    let mut window = window_buffer();
     let mut x = zeros();
     let mut y = zeros();
     let mut out = text_buffer();
-    print_through(&mut window, &mut x, &mut y, &mut out, most)
+    print_through(
+        input,
+        to,
+        errors,
+        &mut window,
+        &mut x,
+        &mut y,
+        &mut out,
+        most,
+    )
 }

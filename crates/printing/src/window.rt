@@ -1,9 +1,9 @@
-// The window through which standard input is read.
+// The window through which an input is read.
 ghost use Rattle.std.specs.Prelude.{◌+◌, ◌-◌, ◌≤◌, ◌<◌, min, ◌≡◌, length, take, drop};
 ghost use Rattle.listlaws.specs.Over.{over};
 ghost use Rattle.printing.specs.Windows.{Refills};
 
-use libc::{STDERR_FILENO, STDIN_FILENO};
+use std::io::{Read, Write};
 
 pub fn least(a: u64, b: u64) -> u64
     ensures { result ≡ min a b }
@@ -17,10 +17,8 @@ fn keep_rest(window: &mut [u8], from: usize, have: usize) -> usize
     ensures { (result ≡ have - from) × (window.new ≡ over window.old 0 (take (have - from) (drop from window.old))) }
 {
     let n = have - from;
-    let mut i: usize = 0;
-    while i < n {
+    for i in 0..n {
         window[i] = window[from + i];
-        i += 1;
     }
     n
 }
@@ -33,16 +31,20 @@ pub struct Got {
 }
 
 // Reads at most `left` bytes to the place `have` of a window that is not full. The bytes before it stay.
-fn read_more(window: &mut [u8], have: usize, left: u64) -> Got
+fn read_more<R: Read>(input: &mut R, window: &mut [u8], have: usize, left: u64) -> Got
     requires { have < length window.old }
     ensures { (have + result.count ≤ length window.new) × (result.count ≤ left) × (take have window.new ≡ take have window.old) }
 {
     let end = have + least(left, (window.len() - have) as u64) as usize;
-    let got = libc::read(STDIN_FILENO, &mut window[have..end]);
-    let count = io::count(got, &window[have..end]);
-    Got {
-        count,
-        failed: got < 0,
+    match input.read(&mut window[have..end]) {
+        Ok(count) => Got {
+            count,
+            failed: false,
+        },
+        Err(_) => Got {
+            count: 0,
+            failed: true,
+        },
     }
 }
 
@@ -55,15 +57,22 @@ pub struct Filled {
     pub failed: bool,
 }
 
-// Moves the bytes that are not taken to the front of the window and reads behind them. Words on a read that fails go to standard error.
-pub fn refill(window: &mut [u8], from: usize, have: usize, left: u64) -> Filled
+// Moves the bytes that are not taken to the front of the window and reads behind them. Words on a read that fails go to `errors`.
+pub fn refill<R: Read, E: Write>(
+    input: &mut R,
+    errors: &mut E,
+    window: &mut [u8],
+    from: usize,
+    have: usize,
+    left: u64,
+) -> Filled
     requires { (from ≤ have) × (have ≤ length window.old) × (have - from < length window.old) }
     ensures { Refills window.old from have left result window.new }
 {
     let n = keep_rest(window, from, have);
-    let got = read_more(window, n, left);
+    let got = read_more(input, window, n, left);
     if got.failed {
-        io::write_all(STDERR_FILENO, b"standard input cannot be read\n");
+        let _ = errors.write_all(b"standard input cannot be read\n");
     }
     Filled {
         have: n + got.count,

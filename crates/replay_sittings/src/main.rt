@@ -2,23 +2,27 @@
 // `stdout` has what the harness's own reader and the Rust source give: harness/ wrote both, by `harness/run vectors sittings`.
 #![tactic(auto)]
 
-use libc::{STDIN_FILENO, STDOUT_FILENO};
 use number::Reading;
+use std::io;
+use std::io::{BufReader, Read, Write};
 
-// A byte of standard input, where there is one.
+// More sittings than the input has.
+const MOST: u64 = 100000;
+
+// A byte of the input, where there is one.
 #[derive(Drop)]
 struct Byte {
     there: bool,
     value: u8,
 }
 
-fn read_byte() -> Byte {
+fn read_byte<R: Read>(input: &mut R) -> io::Result<Byte> {
     let mut one = [0u8; 1];
-    let there = io::read_full(STDIN_FILENO, &mut one) == 1;
-    Byte {
+    let there = input.read(&mut one)? == 1;
+    Ok(Byte {
         there,
         value: one[0],
-    }
+    })
 }
 
 // A byte count, where there is one.
@@ -42,50 +46,55 @@ fn count_of(bytes: &[u8]) -> Count {
 }
 
 // Reads the byte count of the next sitting: at most ten bytes.
-fn read_count() -> Count {
+fn read_count<R: Read>(input: &mut R) -> io::Result<Count> {
     let mut bytes = [0u8; 10];
-    let mut n: usize = 0;
-    while n < 10 {
-        let b = read_byte();
+    for n in 0..10 {
+        let b = read_byte(input)?;
         if !b.there {
-            return NONE;
+            return Ok(NONE);
         }
         bytes[n] = b.value;
-        n += 1;
         if b.value < 128 {
-            return count_of(&bytes[..n]);
+            return Ok(count_of(&bytes[..n + 1]));
         }
     }
-    NONE
+    Ok(NONE)
 }
 
 // Reads so many bytes, and leaves them.
-fn skip(count: u64) {
-    let mut left = count;
-    while left > 0 {
-        if !read_byte().there {
-            return;
+fn skip<R: Read>(input: &mut R, count: u64) -> io::Result<()> {
+    for _ in 0..count {
+        if !read_byte(input)?.there {
+            break;
         }
-        left -= 1;
     }
+    Ok(())
 }
 
 // Prints the next sheet; answers whether there was one.
-fn next() -> bool {
-    let count = read_count();
+fn next<R: Read, W: Write, E: Write>(
+    input: &mut R,
+    to: &mut W,
+    errors: &mut E,
+) -> io::Result<bool> {
+    let count = read_count(input)?;
     if !count.there {
-        return false;
+        return Ok(false);
     }
-    skip(printing::print_sheet(count.value));
-    io::write_all(STDOUT_FILENO, b"\n")
+    let left = printing::print_sheet(input, to, errors, count.value);
+    skip(input, left)?;
+    to.write_all(b"\n")?;
+    Ok(true)
 }
 
-fn main() {
-    let mut left: u64 = 100000;
-    while left > 0 {
-        left -= 1;
-        if !next() {
-            return;
+fn main(rt: HostRuntime) -> io::Result<()> {
+    let mut input = BufReader::new(rt.alloc(), rt.reader())?;
+    let mut to = rt.stdout();
+    let mut errors = rt.stderr();
+    for _ in 0..MOST {
+        if !next(&mut input, &mut to, &mut errors)? {
+            break;
         }
     }
+    Ok(())
 }

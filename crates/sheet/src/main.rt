@@ -6,16 +6,20 @@
 use codes::{
     RateCodes, RestartCodes, ScaleCodes, SettingsCodes, SmoothCodes, SpanCodes, TransportCodes,
 };
-use libc::{STDERR_FILENO, STDOUT_FILENO};
 use number::Writing;
+use std::io;
 
 const FRAMES: usize = 4;
 
+// More than any text here takes.
+const ROOM: usize = 4096;
+
 // The first `n` bytes.
-fn show(out: &[u8], n: usize) {
+fn show<P: Print>(rt: &P, out: &[u8], n: usize) -> io::Result<()> {
     if n <= out.len() {
-        io::write_all(STDOUT_FILENO, &out[..n]);
+        rt.write_all(&out[..n])?;
     }
+    Ok(())
 }
 
 // The place after a text; a text that has no room is not there.
@@ -26,11 +30,11 @@ fn end_of(w: Writing) -> usize {
     }
 }
 
-fn show_sheet(x: &[f32; FRAMES], y: &[f32; FRAMES]) {
-    let mut out = io::buffer();
+fn show_sheet<P: Print>(rt: &P, x: &[f32; FRAMES], y: &[f32; FRAMES]) -> io::Result<()> {
+    let mut out = [0; ROOM];
     let lines = end_of(text::write_header(&mut out, 0));
     let end = end_of(text::write_lines(&mut out, lines, 0, x, y, FRAMES));
-    show(&out, end);
+    show(rt, &out, end)
 }
 
 // No delay and no fade.
@@ -90,25 +94,22 @@ fn transport() -> TransportCodes {
 }
 
 // Whether an answer is a refusal; if so, prints it, with words on standard error.
-fn refused(answer: u8) -> bool {
+fn refused<P: Print + Eprint>(rt: &P, answer: u8) -> io::Result<bool> {
     if answer == 0 {
-        return false;
+        return Ok(false);
     }
-    let mut out = io::buffer();
+    let mut out = [0; ROOM];
     let end = end_of(text::write_number(&mut out, 0, answer as u64));
-    show(&out, end);
-    io::write_all(
-        STDERR_FILENO,
-        b"sheet: refused; docs/RULES.md has the question of that number\n",
-    );
-    true
+    show(rt, &out, end)?;
+    eprintln!(rt; "sheet: refused; docs/RULES.md has the question of that number")?;
+    Ok(true)
 }
 
-fn main() {
+fn main(rt: HostRuntime) -> io::Result<()> {
     let given = settings();
     let made = player::make(given, 0);
-    if refused(made.answer) {
-        return;
+    if refused(&rt, made.answer)? {
+        return Ok(());
     }
     let p = made.player;
     let t = transport();
@@ -116,8 +117,8 @@ fn main() {
     let mut x = [0.0f32; FRAMES];
     let mut y = [0.0f32; FRAMES];
     let played = player::play(p, t, FRAMES as u64, restart, &mut x, &mut y);
-    if refused(played.answer) {
-        return;
+    if refused(&rt, played.answer)? {
+        return Ok(());
     }
-    show_sheet(&x, &y);
+    show_sheet(&rt, &x, &y)
 }

@@ -9,8 +9,9 @@ use codes::{
     LoopbackCodes, ModCodes, PointCodes, RateCodes, RestartCodes, ScaleCodes, SettingsCodes,
     ShapeCodes, SmoothCodes, SpanCodes, TransportCodes,
 };
-use libc::STDOUT_FILENO;
 use points::MAX_POINTS;
+use std::io;
+use std::io::{BufWriter, Write};
 
 const FRAMES: usize = 7;
 
@@ -114,30 +115,30 @@ fn transport() -> TransportCodes {
 }
 
 // Whether an answer is a refusal; if so, writes it.
-fn refused(answer: u8) -> bool {
+fn refused<W: Write>(to: &mut W, answer: u8) -> io::Result<bool> {
     if answer == 0 {
-        return false;
+        return Ok(false);
     }
-    io::print_decimal(STDOUT_FILENO, answer as u64);
-    io::write_all(STDOUT_FILENO, b"\n");
-    true
+    writeln!(to, "{}", answer as u64)?;
+    Ok(true)
 }
 
-fn show_weight(x: f32) {
-    io::print_hex(STDOUT_FILENO, floatbits::bits_of_f32(x), 8);
-    io::write_all(STDOUT_FILENO, b"\n");
+fn show_weight<W: Write>(to: &mut W, x: f32) -> io::Result<()> {
+    writeln!(to, "{:08x}", floatbits::bits_of_f32(x))
 }
 
-fn show_weights(x: [f32; FRAMES]) {
+fn show_weights<W: Write>(to: &mut W, x: [f32; FRAMES]) -> io::Result<()> {
     for i in 0..FRAMES {
-        show_weight(x[i]);
+        show_weight(to, x[i])?;
     }
+    Ok(())
 }
 
-fn main() {
+fn main(rt: HostRuntime) -> io::Result<()> {
+    let mut to = BufWriter::new(rt.alloc(), io::writer(&rt))?;
     let made = player::make(settings(), 0);
-    if refused(made.answer) {
-        return;
+    if refused(&mut to, made.answer)? {
+        return to.flush();
     }
     let shape = ShapeCodes {
         points: points(),
@@ -145,8 +146,8 @@ fn main() {
         loopback: LoopbackCodes { code: 0, index: 0 },
     };
     let shaped = player::set_shape(made.player, shape);
-    if refused(shaped.answer) {
-        return;
+    if refused(&mut to, shaped.answer)? {
+        return to.flush();
     }
     let restart = RestartCodes { code: 1, frame: 0 };
     let mut x = [0.0f32; FRAMES];
@@ -159,8 +160,8 @@ fn main() {
         &mut x,
         &mut y,
     );
-    if refused(played.answer) {
-        return;
+    if refused(&mut to, played.answer)? {
+        return to.flush();
     }
-    show_weights(x);
+    show_weights(&mut to, x)
 }
