@@ -1,5 +1,5 @@
 -- `print_some` meets its contract. Assumes nothing.
-use Rattle.printing.proofs.Loop.{not-over}
+use Rattle.printing.proofs.Loop.{not_over}
 use mathlib.Core.Path.{sym}
 use mathlib.Core.Bool.{false≢true}
 use lib.Seq.{length-take-le}
@@ -20,7 +20,7 @@ is-over-requires : tie.Need-is-over-requires
 is-over-requires c κs = search rules
 
 returns-2 : tie.Need-returns-2
-returns-2 c = not-over c.is-over.ensures
+returns-2 c = not_over c.is-over.ensures
 
 pub print-some-spec : {M : Type 1} → statement M
 print-some-spec =

@@ -1,0 +1,11 @@
+-- `partition_point` meets its contract. The loop's invariant: the answer is that for the first i alone. The measure is i. Assumes nothing.
+use Prim.Native.Nat.{◌≤◌}
+use mathlib.Core.Path.{◌≡◌}
+use Rattle.points.specs.Arrays.{partition_point}
+use Rattle.points.proofs.partition_point.Given as goal
+
+abbrev pub invariant-loop-i : goal.invariant-loop-i
+invariant-loop-i l = (l.i ≤ l.n) × (partition_point l.xs l.n l.x ≡ partition_point l.xs l.i l.x)
+
+abbrev pub decreases-loop-i : goal.decreases-loop-i
+decreases-loop-i l = l.i

@@ -1,0 +1,17 @@
+-- `Scale::from_codes` meets its contract: each code is a place of the list, and any other is past its end. Assumes nothing.
+use Rattle.std.proofs.Common.{arith}
+use lib.ListN.{get_or-eq_default}
+use Rattle.settings.specs.Times.{scales, scale_at}
+use Rattle.settings.proofs.times.Scale.from_codes.Goals as goal
+
+pub returns-in-0 : goal.returns-in-0
+unfolding scale_at
+returns-in-0 c = rw c.in-0.is
+
+pub returns-in-1 : goal.returns-in-1
+unfolding scale_at
+returns-in-1 c = rw c.in-1.is
+
+pub returns-in_default : goal.returns-in_default
+unfolding scale_at
+returns-in_default c = let a = c.args.c in rw (get_or-eq_default (scales a) _ {n = a.code} (omega arith))

@@ -1,0 +1,19 @@
+-- `whole::floor` meets its contract, by the laws of proofs/Part.antt.
+-- Assumes nothing.
+use Rattle.std.proofs.Common.{T, sym, subst}
+use lib.Ieee.{of_bits, neg}
+use Rattle.floatlaws.proofs.Tests.{yes_so}
+use Rattle.whole.proofs.Part.{floor_down, floor_same}
+use Rattle.whole.proofs.floor.Goals as goal
+
+pub small_floor-requires : goal.small_floor-requires
+unfolding of_bits neg
+small_floor-requires c = record { fact_1 = yes_so c.if-x.true; fact_2 = yes_so c.if-x-2.true }
+
+pub returns-then-x-t : goal.returns-then-x-t
+returns-then-x-t c =
+    floor_down c.args.x c.trunc-t.result (subst T (sym c.well_formed.0.1) tt) c.trunc-t.ensures c.if-x-t.true
+
+pub returns-else-x-t : goal.returns-else-x-t
+returns-else-x-t c =
+    floor_same c.args.x c.trunc-t.result (subst T (sym c.well_formed.0.1) tt) c.trunc-t.ensures c.if-x-t.false
