@@ -3,6 +3,7 @@
 
 It takes no arguments. The table is tools/respell.tsv, a row a name: old, a tab, new. A row has a third column where it doesn't hold everywhere:
     local        a bound name of specs and lemma files alone
+    prose        port.py turned it in the code: what comments, pages and edits still say
     NAME path    two columns: of that file alone, and only while the file still has NAME (the row's old spelling is what NAME turns to, so a second run would go on)
 A second run changes nothing. What turns, by whole tokens:
     crates/**/*.antt       the code but quoted text; in comments code spans, and bare words that the file's code has
@@ -37,7 +38,7 @@ DECLARED = re.compile(r"^ *(?:(?:pub|abbrev|unfoldable|field) )*((?:[^\s(){}.;,@
 BLOCK = re.compile(r"(?<![^\s(){};,])(?:where|do|let|mutual) +(?=\S)")
 CAPITAL = re.compile(r"[a-z0-9₀-₉][A-Z]")
 
-everywhere, local, here = {}, {}, collections.defaultdict(list)
+everywhere, local, prose, here = {}, {}, {}, collections.defaultdict(list)
 seen = collections.Counter()
 
 
@@ -49,6 +50,8 @@ def read_table():
                 everywhere[row[0]] = row[1]
             elif len(row) == 3 and row[2] == "local":
                 local[row[0]] = row[1]
+            elif len(row) == 3 and row[2] == "prose":
+                prose[row[0]] = row[1]
             elif len(row) == 4:
                 here[row[3]].append((row[2], row[0], row[1]))
 
@@ -95,7 +98,7 @@ class File:
         self.path = path
         with open(path, encoding="utf-8", newline="") as f:
             self.old = f.read()
-        self.table, self.proof = dict(everywhere), path.endswith("Proof.antt")
+        self.table, self.said, self.proof = dict(everywhere), {}, path.endswith("Proof.antt")
         if path.endswith(".antt"):
             if not self.proof:
                 self.table.update(local)
@@ -104,6 +107,8 @@ class File:
             self.table.update((a, b) for while_, a, b in here.get(path, ()) if while_ in words)
             declared = {n for m in DECLARED.finditer(code) for n in m[1].split()}
         else:
+            words = set(PART.findall(self.old)) if path.endswith(".md") else set()
+            self.said = {a: b for while_, a, b in here.get(path, ()) if while_ in words}
             code, declared = "\n".join(m[0] for m in GHOST_USE.finditer(self.old)), set()
         for m in USE.finditer(code) if path.endswith((".antt", ".rt")) else ():
             parts = m[1].split(".")
@@ -114,6 +119,7 @@ class File:
                 if name in self.table and name not in declared:
                     seen["kit names kept"] += 1
                     del self.table[name]
+        self.said = {**prose, **self.table, **self.said}
         self.code_words = set()
 
     def code(self, text):
@@ -136,12 +142,12 @@ class File:
 
     def words(self, text, may):
         def one(m):
-            if m[0] not in self.table or not may(m[0]):
+            if m[0] not in self.said or not may(m[0]):
                 return m[0]
             seen["words in comments and pages"] += 1
-            return self.table[m[0]]
+            return self.said[m[0]]
 
-        return WORD.sub(lambda m: one(m) if m[0] in self.table else PART.sub(one, m[0]), text)
+        return WORD.sub(lambda m: one(m) if m[0] in self.said else PART.sub(one, m[0]), text)
 
     def comment(self, text, may):
         return between(SPAN, text, self.span, lambda t: self.words(t, may))
@@ -151,7 +157,7 @@ class File:
         return between(QUIET, text, lambda q: q if q[0] == '"' else self.comment(q, self.in_code), self.code)
 
     def in_code(self, w):
-        return w in self.code_words
+        return w in self.code_words or w in prose and prose[w] in self.code_words
 
     def rt(self, text):
         parts, at = [], 0
@@ -175,7 +181,8 @@ class File:
 
     def edit(self, text):
         self.code_words = {w for line in text.split("\n") if line[:4] in ("old:", "new:") for w in WORD.findall(line)}
-        turn = {"file": str, "old:": self.code, "new:": self.code}
+        line = lambda text: text[:4] + self.words(text[4:], lambda w: True)
+        turn = {"file": str, "old:": line, "new:": line}
         comment = lambda line: self.comment(line, self.in_code)
         return "\n".join(turn.get(line[:4], comment)(line) for line in text.split("\n"))
 
@@ -222,7 +229,7 @@ def main():
             seen["files changed: " + kind] += 1
             with open(path, "w", encoding="utf-8", newline="") as f:
                 f.write(new)
-    print(f"rows {len(everywhere) + len(local) + sum(map(len, here.values()))}; " + "; ".join(f"{what} {n}" for what, n in sorted(seen.items())))
+    print(f"rows {len(everywhere) + len(local) + len(prose) + sum(map(len, here.values()))}; " + "; ".join(f"{what} {n}" for what, n in sorted(seen.items())))
 
 
 main()

@@ -1,5 +1,5 @@
 -- `keep_rest` meets its contract: a byte more is moved at each turn. Assumes nothing.
-use Rattle.std.proofs.Common.{refl, arith}
+use Rattle.std.proofs.Common.{◌≡◌, ◌∙◌, refl, arith}
 use Rattle.std.proofs.lemmas.Grind.{common_steps}
 use Rattle.printing.proofs.Shifted.{shifted_none, shifted_one}
 use Rattle.printing.proofs.window.keep_rest.Goals as goal
