@@ -4,5 +4,3 @@ pub mod Rounds
 pub mod Places
 pub mod Curves
 pub mod Again
-pub mod Element
-pub mod PageValue

@@ -1,5 +1,4 @@
-// The voices of an ensemble, a lent list of records, one changed per turn. The borrow checker covers no function over a slice of structs: the
-// proofs are walks by hand.
+// The voices of an ensemble, a lent list of records, one changed per turn.
 ghost use Rattle.std.specs.Prelude.{◌≡◌};
 ghost use Rattle.ensemble.specs.Ensemble.{AllReady, TurnReady, Turns, PlaysAll};
 

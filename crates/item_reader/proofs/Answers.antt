@@ -1,6 +1,6 @@
 -- The questions, put once an item is read. Assumes nothing.
 --     front_asked     an item with something behind it
---     faulty, left-over, failing, accepted     what a record gives
+--     faulty, left_over, failing, accepted     what a record gives
 --     refuses, gives     how a program says so
 use Prim.Native.Nat.{ℕ}
 use mathlib.Core.Path.{◌≡◌, refl, sym}

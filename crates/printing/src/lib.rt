@@ -6,7 +6,7 @@
 mod window;
 
 ghost use Rattle.std.specs.Prelude.{◌≤◌, ◌<◌, ◌^◌, ◌≡◌, true, false, length};
-ghost use Rattle.turns.specs.Turns.{is_over, turnRoom};
+ghost use Rattle.turns.specs.Turns.{is_over, turn_room};
 
 use std::io::{Read, Write};
 use turns::{Progress, Sitting};
@@ -34,7 +34,7 @@ fn print_some<W: Write>(to: &mut W, out: &[u8], n: usize, progress: Progress) ->
 
 // Writes what is still due where the input has ended.
 fn print_last<W: Write>(to: &mut W, t: Sitting, s: &[u8], out: &mut [u8])
-    requires { (turnRoom ≤ length out.old) × (t.index < 2 ^ 64) }
+    requires { (turn_room ≤ length out.old) × (t.index < 2 ^ 64) }
 {
     let n = turns::last_text(t, s, out);
     let _ = to.write_all(&out[..n]);

@@ -20,6 +20,6 @@ pub returns : goal.returns
 returns c =
     let i = c.loop-j.invariant in
     elim c.loop-j-test.branch [
-      else-loop-j-test w ↦ first _ _ _ (omega arith) _ _ w.loop-j-test.false i.1
-    | then-loop-j-test+else-before-p w ↦ stop _ _ _ (omega arith) _ _ w.loop-j-test.true i.1 w.if-before-p.false
+      | else-loop-j-test w ↦ first _ _ _ (omega arith) _ _ w.loop-j-test.false i.1
+      | then-loop-j-test+else-before-p w ↦ stop _ _ _ (omega arith) _ _ w.loop-j-test.true i.1 w.if-before-p.false
     ]

@@ -1,0 +1,33 @@
+-- `read_path_points` meets its contract. The loop's invariant: i points are read, and the array has the first 64 of them. Assumes nothing.
+use Prim.Native.Nat.{◌-◌}
+use mathlib.Core.Path.{◌≡◌, refl}
+use native.Mathlib.Omega.{arith}
+use lib.ListN.{length-set}
+use Rattle.runs.specs.Curves.{kept}
+use Rattle.fields.proofs.Places.{last}
+use Rattle.runs.proofs.Loops.{stored, passed}
+use Rattle.runs.proofs.paths.read_path_points.Goals as goal
+use Rattle.runs.proofs.paths.read_path_points.Goals.{then-i-lt-MAX_POINTS, else-i-lt-MAX_POINTS}
+
+pub loop-i-init : goal.loop-i-init
+unfolding kept
+loop-i-init c = rw c.blank_path_points-kept.ensures (omega arith, refl, last)
+
+pub loop-i-preserved : goal.loop-i-preserved
+loop-i-preserved c =
+    let inv = c.loop-i.invariant in (
+      omega arith,
+      elim c.if-i-lt-MAX_POINTS.branch [
+        | then-i-lt-MAX_POINTS w ↦ rw w.kept_is (simp length-set inv.1)
+        | else-i-lt-MAX_POINTS w ↦ rw w.kept_is inv.1
+      ],
+      elim c.if-i-lt-MAX_POINTS.branch [
+        | then-i-lt-MAX_POINTS w ↦ rw w.kept_is (stored _ _ _ _ _ _ _ inv.2 _ _ c.read_path_point-p.ensures)
+        | else-i-lt-MAX_POINTS w ↦ rw w.kept_is (passed _ _ _ _ _ _ _ inv.2 _ _ c.read_path_point-p.ensures (omega arith))
+      ],
+    )
+
+pub returns : goal.returns
+returns c =
+    let e : c.loop-i.i ≡ c.args.count = omega arith in
+    rw (← e) c.loop-i.invariant.2
