@@ -3,4 +3,3 @@ pub mod Alone
 pub mod Rounds
 pub mod Places
 pub mod Curves
-pub mod Again

@@ -1,7 +1,7 @@
 -- The questions of a block, behind those of its transport. Assumes nothing.
 use Prim.Native.Nat.{ℕ, ◌*◌, ◌≤◌}
 use mathlib.Core.Path.{◌≡◌, refl, sym, ◌∙◌}
-use mathlib.Core.Bool.{Bool, true, false, not, ◌&&◌}
+use mathlib.Core.Bool.{Bool, true, false, ◌&&◌}
 use mathlib.Core.List.{List, [], ◌∷◌, ◌++◌}
 use native.Mathlib.Omega.{arith}
 use lib.Dec.{leb}
@@ -37,5 +37,5 @@ module _ (t : TransportCodes) (rest : List Question) (a : ℕ) (asked : a ≡ fi
   front_passed h = three_passed (transport_known t) (transport_finite t) (transport_in t) rest (sym asked ∙ h)
 
 -- question 7 leaves few frames
-pub few : (frames count a b : ℕ) {asked : Bool} → asked ≡ (leb frames 4096 && leb (frames * count) a && leb (frames * count) b) → not asked ≡ false → frames ≤ 4096
+pub few : (frames count a b : ℕ) {asked : Bool} → asked ≡ (leb frames 4096 && leb (frames * count) a && leb (frames * count) b) → asked ≡ true → frames ≤ 4096
 few frames count a b e h = leb-true _ _ (three (leb frames 4096) (leb (frames * count) a) (leb (frames * count) b) (yes e h)).0

@@ -4,7 +4,7 @@ use mathlib.Core.Path.{◌≡◌, refl, sym, ◌∙◌}
 use mathlib.Core.Bool.{Bool, true, false, not, ◌&&◌, ◌||◌, cond, false≢true}
 use native.Mathlib.Numerals.{add-one}
 use lib.Dec.{leb}
-use borrow.Author.Tests.{leb-true, not-true, not-false}
+use borrow.Author.Tests.{leb-true}
 use lib.Ieee.{Float, nan, inf, fin, lt}
 use lib.Ieee.Scale.{finite}
 use Rattle.questions.specs.Tests.{every}
@@ -28,11 +28,11 @@ every_more t i a b = rw (a, b, add-one)
 
 -- ---- a question's test, by the branch that was taken
 
-pub no : {asked test : Bool} → asked ≡ test → not asked ≡ true → test ≡ false
-no e h = sym e ∙ not-true _ h
+pub no : {asked test : Bool} → asked ≡ test → asked ≡ false → test ≡ false
+no e h = sym e ∙ h
 
-pub yes : {asked test : Bool} → asked ≡ test → not asked ≡ false → test ≡ true
-yes e h = sym e ∙ not-false _ h
+pub yes : {asked test : Bool} → asked ≡ test → asked ≡ true → test ≡ true
+yes e h = sym e ∙ h
 
 -- the test with the call's other floats
 pub also : {asked test : Bool} → asked ≡ test → (others : Bool) → (asked && others) ≡ (test && others)
@@ -62,5 +62,5 @@ seven a b c d e f g h =
     (p.0, p.1, p.2, p.3, p.4, q.1, q.2)
 
 -- question 7 leaves few frames
-pub few : (frames a b : ℕ) {asked : Bool} → asked ≡ (leb frames 4096 && leb frames a && leb frames b) → not asked ≡ false → frames ≤ 4096
+pub few : (frames a b : ℕ) {asked : Bool} → asked ≡ (leb frames 4096 && leb frames a && leb frames b) → asked ≡ true → frames ≤ 4096
 few frames a b e h = leb-true _ _ (three (leb frames 4096) (leb frames a) (leb frames b) (yes e h)).0

@@ -1,0 +1,13 @@
+-- `put_rate` meets its contract. Assumes nothing.
+use Rattle.record.specs.Writing.{rate_bytes}
+use Rattle.item_writer.proofs.Laws.{◌then◌}
+use Rattle.item_writer.proofs.records.put_rate.Goals as goal
+
+pub returns : goal.returns
+unfolding rate_bytes
+returns c =
+    c.put-code.ensures
+    then c.put_if-division.ensures
+    then c.put_if-feel.ensures
+    then c.put_f32_if-hz.ensures
+    then c.put_if.ensures

@@ -1,0 +1,10 @@
+-- `put_smooth` meets its contract. Assumes nothing.
+use Rattle.record.specs.Writing.{smooth_bytes}
+use Rattle.item_writer.proofs.Laws.{◌then◌}
+use Rattle.item_writer.proofs.records.put_smooth.Goals as goal
+
+pub returns : goal.returns
+unfolding smooth_bytes
+returns c =
+    c.put-code.ensures
+    then c.put_f32_if.ensures

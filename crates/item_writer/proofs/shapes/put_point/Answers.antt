@@ -1,0 +1,14 @@
+-- `put_point` meets its contract. Assumes nothing.
+use Rattle.record.specs.Writing.{point_bytes}
+use Rattle.item_writer.proofs.Laws.{◌then◌}
+use Rattle.item_writer.proofs.shapes.put_point.Goals as goal
+
+pub returns : goal.returns
+unfolding point_bytes
+returns c =
+    c.put_f32-x.ensures
+    then c.put_f32-y.ensures
+    then c.put_f32-curve.ensures
+    then (rw c.yes_no-stepped.ensures at c.put-step.ensures)
+    then (rw c.mod_codes-x_codes.ensures at c.put_mod-x_mod.ensures)
+    then (rw c.mod_codes-y_codes.ensures at c.put_mod.ensures)

@@ -1,0 +1,9 @@
+-- `transport_known` meets its contract: `from_codes` answers where every code is known. Assumes nothing.
+use Rattle.settings.proofs.Known.{transport_is_known}
+use Rattle.questions.proofs.settings_tests.transport_known.Goals as goal
+
+pub returns-in-Known : goal.returns-in-Known
+returns-in-Known c = rw (← transport_is_known, ← c.from_codes.ensures, c.in-Known.is)
+
+pub returns-in-Unknown : goal.returns-in-Unknown
+returns-in-Unknown c = rw (← transport_is_known, ← c.from_codes.ensures, c.in-Unknown.is)
