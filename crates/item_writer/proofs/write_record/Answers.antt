@@ -13,7 +13,7 @@ use Rattle.item_writer.proofs.write_record.Goals.{After-put_item-n, Start}
 typed : (c : Start) → Typed c.args.c
 typed c = item_typed c.args.c _ c.well_formed.0
 
-few_numbers : (c : After-put_item-n) → length (take c.put_item-n.result c.put_item-n.new.0) ≤ 1264
+few_numbers : (c : After-put_item-n) → length (take c.put_item-n.result c.put_item-n.new.out) ≤ 1264
 few_numbers c = simp length-take (omega (arith, c.put_item-n.ensures.1))
 
 pub returns-then-answer-ne0 : goal.returns-then-answer-ne0

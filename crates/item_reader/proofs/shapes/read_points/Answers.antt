@@ -19,9 +19,9 @@ loop-i-preserved c =
       omega arith,
       most,
       simp length-set long,
-      next_x at.auto at.i _ (omega arith),
-      points_more at.auto at.i _ (omega arith) _ x r c.read_point-p.ensures.i-fits,
-      filled_more 64 blank_point at.auto at.i _ long (omega arith) filled,
+      next_x at.kept at.i _ (omega arith),
+      points_more at.kept at.i _ (omega arith) _ x r c.read_point-p.ensures,
+      filled_more 64 blank_point at.kept at.i _ long (omega arith) filled,
     )
 
 pub returns : goal.returns

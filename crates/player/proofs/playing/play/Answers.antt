@@ -15,34 +15,29 @@ returns-in_default c =
 
 pub loop_point-from-requires : goal.loop_point-from-requires
 loop_point-from-requires c =
-    let s = c.before in
-    loopback_small s.args.p s.requires
+    loopback_small c.args.p c.requires
 
 pub prepare-prepared-requires : goal.prepare-prepared-requires
 prepare-prepared-requires c =
-    let s = c.before in
-    let a = s.args in
-    count_small a.p s.requires a.t a.frames a.restart a.x.now a.y.now _ c.block-answer.ensures c.if1.false _ (sym c.from-codes.ensures ∙ c.transport.given.1)
+    let a = c.args in
+    count_small a.p c.requires a.t a.frames a.restart a.x.now a.y.now _ c.block_answer-answer.ensures c.if-answer-ne0.false _ (sym c.from_codes.ensures ∙ c.in-Known.is)
 
 pub render_parts-r-requires : goal.render_parts-r-requires
 render_parts-r-requires c =
-    let s = c.before.before in
-    let a = s.args in
-    block_stretch a.p s.requires a.t a.frames a.restart a.x.now a.y.now _ c.block-answer.ensures c.if1.false _ (sym c.from-codes.ensures ∙ c.transport.given.1)
-    _ _ c.point-count.ensures c.loop-point.ensures _ c.prepare.ensures
+    let a = c.args in
+    block_stretch a.p c.requires a.t a.frames a.restart a.x.now a.y.now _ c.block_answer-answer.ensures c.if-answer-ne0.false _ (sym c.from_codes.ensures ∙ c.in-Known.is)
+    _ _ c.point_count-n.ensures c.loop_point-from.ensures _ c.prepare-prepared.ensures
 
 pub overflow_add-deck : goal.overflow_add-deck
 overflow_add-deck c =
-    let s = c.before.before in
-    let a = s.args in
+    let a = c.args in
     record {
-      fits = omega (arith, within_life a.p s.requires a.t a.frames a.restart a.x.now a.y.now _ c.block-answer.ensures c.if1.false);
+      fits = omega (arith, within_life a.p c.requires a.t a.frames a.restart a.x.now a.y.now _ c.block_answer-answer.ensures c.if-answer-ne0.false);
     }
 
 pub returns : goal.returns
 returns c =
-    let s = c.before.before in
-    let a = s.args in
-    block_played a.p s.requires a.t a.frames a.restart a.x.now a.y.now _ c.block-answer.ensures c.if1.false _ (sym c.from-codes.ensures ∙ c.transport.given.1)
-    _ _ c.point-count.ensures c.loop-point.ensures _ c.prepare.ensures _ c.pending.ensures _ _ _ _
+    let a = c.args in
+    block_played a.p c.requires a.t a.frames a.restart a.x.now a.y.now _ c.block_answer-answer.ensures c.if-answer-ne0.false _ (sym c.from_codes.ensures ∙ c.in-Known.is)
+    _ _ c.point_count-n.ensures c.loop_point-from.ensures _ c.prepare-prepared.ensures _ c.pending-at.ensures _ _ _ _
     c.render_parts-r.ensures c.finished-finished.ensures

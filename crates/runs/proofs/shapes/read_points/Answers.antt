@@ -18,12 +18,12 @@ loop-i-preserved c =
     let inv = c.loop-i.invariant in (
       omega arith,
       elim c.if-i-lt-MAX_POINTS.branch [
-        | then-i-lt-MAX_POINTS w ↦ rw w.kept_is (simp length-set inv.1)
-        | else-i-lt-MAX_POINTS w ↦ rw w.kept_is inv.1
+        | then-i-lt-MAX_POINTS w ↦ rw w.kept-is (simp length-set inv.1)
+        | else-i-lt-MAX_POINTS w ↦ rw w.kept-is inv.1
       ],
       elim c.if-i-lt-MAX_POINTS.branch [
-        | then-i-lt-MAX_POINTS w ↦ rw w.kept_is (stored _ _ _ _ _ _ _ inv.2 _ _ c.read_point-p.ensures)
-        | else-i-lt-MAX_POINTS w ↦ rw w.kept_is (passed _ _ _ _ _ _ _ inv.2 _ _ c.read_point-p.ensures (omega arith))
+        | then-i-lt-MAX_POINTS w ↦ rw w.kept-is (stored _ _ _ _ _ _ _ inv.2 _ _ c.read_point-p.ensures)
+        | else-i-lt-MAX_POINTS w ↦ rw w.kept-is (passed _ _ _ _ _ _ _ inv.2 _ _ c.read_point-p.ensures (omega arith))
       ],
     )
 

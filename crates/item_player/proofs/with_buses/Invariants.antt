@@ -1,0 +1,14 @@
+-- `with_buses` meets its contract. Assumes nothing.
+use Prim.Native.Nat.{◌-◌, ◌≤◌}
+use mathlib.Core.Path.{◌≡◌}
+use lib.ListN.{length, drop}
+use Rattle.player.specs.Player.{state_of, Valid}
+use Rattle.calls.specs.Calls.{after}
+use Rattle.item_calls.specs.Calls.{bus_calls}
+use Rattle.item_player.proofs.with_buses.Given as goal
+
+abbrev pub invariant-loop-k : goal.invariant-loop-k
+invariant-loop-k l = (length l.buses ≡ 16) × (l.k ≤ 16) × Valid l.q × (after (state_of l.initial.q) (bus_calls l.buses 0) ≡ after (state_of l.q) (bus_calls (drop l.k l.buses) l.k))
+
+abbrev pub decreases-loop-k : goal.decreases-loop-k
+decreases-loop-k l = 16 - l.k
