@@ -42,7 +42,7 @@ module _ {M S A : Type 0} (C : Calling M S A) (run x : List ℕ) (place : ℕ) (
         bytes = refl;
         place_is = refl;
         room = λ h. leb-true (place + length (bytes_of l)) (length x) e;
-        rest = λ most. rw (e, fitting_if);
+        rest = λ most. rw e (ap (λ (z : List ℕ). bytes_of l ++ z) (fitting_if (length x) (place + length (bytes_of l)) going (given C most s run at)));
       }
   by_fit false e = record { written = []; bytes = sym (over_none x place); place_is = omega arith; room = λ h. h; rest = λ most. rw e }
 

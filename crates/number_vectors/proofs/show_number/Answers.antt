@@ -1,5 +1,5 @@
 -- `show_number` is safe: the form of a number has at most ten bytes. Assumes nothing.
-use Rattle.std.proofs.Common.{◌≤◌, length, sym, arith, length-take-le}
+use Rattle.std.proofs.Common.{sym, arith, length-take-le}
 use Rattle.number.proofs.Form.{encoded_length}
 use Rattle.number_vectors.proofs.show_number.Goals as goal
 
