@@ -1,5 +1,5 @@
 //! Programs of the repository, fed and read by threads of their own, so that no pipe fills up. They run with the toolchain's C library, as print-sheet runs
-//! them: LFO_PROGRAMS names their folder and LFO_TOOLCHAIN the toolchain's; without the latter the machine's own C library serves.
+//! them: LFO_PROGRAMS names the folder of their crates and LFO_TOOLCHAIN the toolchain's; without the latter the machine's own C library serves.
 use crate::values::Values;
 use std::env;
 use std::io::{Read, Write};
@@ -8,8 +8,8 @@ use std::process::{Child, ChildStdin, Command, Stdio};
 use std::thread::{self, JoinHandle};
 use std::time::Duration;
 
-/// Where the programs are.
-const PROGRAMS: &str = concat!(env!("CARGO_MANIFEST_DIR"), "/../target/bin");
+/// Where the programs' crates are.
+const PROGRAMS: &str = concat!(env!("CARGO_MANIFEST_DIR"), "/../crates");
 
 /// What the input is written in.
 pub enum Pieces {
@@ -24,28 +24,17 @@ pub struct Running {
     reads: JoinHandle<Vec<u8>>,
 }
 
-// The loader of the toolchain, through its emulator where it has one.
+// The loader of the toolchain.
 fn loaded(toolchain: &str, program: &Path) -> Command {
     let lib = Path::new(toolchain).join("lib");
-    let (emulator, loader) = (
-        Path::new(toolchain).join("bin/qemu-x86_64"),
-        lib.join("ld-linux-x86-64.so.2"),
-    );
-    let mut command = match emulator.exists() {
-        true => {
-            let mut command = Command::new(emulator);
-            command.arg(loader);
-            command
-        }
-        false => Command::new(loader),
-    };
+    let mut command = Command::new(lib.join("ld-linux-x86-64.so.2"));
     command.arg("--library-path").arg(lib).arg(program);
     command
 }
 
 fn program(name: &str) -> PathBuf {
     let folder = env::var("LFO_PROGRAMS").unwrap_or(PROGRAMS.to_string());
-    Path::new(&folder).join(name)
+    Path::new(&folder).join(name).join("out").join(name)
 }
 
 /// Where a program should be that is not there.

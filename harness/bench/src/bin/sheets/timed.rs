@@ -47,7 +47,7 @@ fn ours(work: &Path, n: usize) -> Command {
     let lib = PathBuf::from(folder("LFO_TOOLCHAIN")).join("lib");
     let mut command = Command::new(lib.join("ld-linux-x86-64.so.2"));
     command.arg("--library-path").arg(lib);
-    command.arg(PathBuf::from(folder("LFO_PROGRAMS")).join("sitting"));
+    command.arg(PathBuf::from(folder("LFO_PROGRAMS")).join("sitting/out/sitting"));
     command.stdin(File::open(file(work, n)).expect("a sitting"));
     command
 }
