@@ -1,0 +1,37 @@
+-- `reply_of` meets its contract. Assumes nothing.
+use Rattle.ensemble_runner.specs.Asked.{by_tag}
+use Rattle.ensemble_runner.proofs.Readings.{other_tag}
+use Rattle.ensemble_runner.proofs.Replying.{replies_none}
+use Rattle.ensemble_runner.proofs.calling.reply_of.Goals as goal
+
+pub returns-in-0 : goal.returns-in-0
+unfolding by_tag
+returns-in-0 c = rw c.in-0.is c.settings_reply.ensures
+
+pub returns-in-1 : goal.returns-in-1
+unfolding by_tag
+returns-in-1 c = rw c.in-1.is c.shape_reply.ensures
+
+pub returns-in-2 : goal.returns-in-2
+unfolding by_tag
+returns-in-2 c = rw c.in-2.is c.path_reply.ensures
+
+pub returns-in-3 : goal.returns-in-3
+unfolding by_tag
+returns-in-3 c = rw c.in-3.is c.bus_reply.ensures
+
+pub returns-in-4 : goal.returns-in-4
+unfolding by_tag
+returns-in-4 c = rw c.in-4.is c.phase_reply.ensures
+
+pub returns-in-9 : goal.returns-in-9
+unfolding by_tag
+returns-in-9 c = rw c.in-9.is c.trigger_reply.ensures
+
+pub returns-in_default : goal.returns-in_default
+returns-in_default c =
+    let a = c.args in
+    let k = c.in_default.in_default-own.rest in
+    let l = k.0.0.0 in
+    let none_is = other_tag a.tag l.0.0.1 l.0.1 l.1 k.0.0.1 k.0.1 c.requires.1 k.1 in
+    rw (c.malformed.ensures, none_is) (replies_none a.run.now a.e a.from c.requires.0)
