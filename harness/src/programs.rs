@@ -1,7 +1,5 @@
-//! Programs of the repository, fed and read by threads of their own, so that no pipe fills up. They run with the toolchain's C library, as print-sheet runs
-//! them: LFO_PROGRAMS names the folder of their crates and LFO_TOOLCHAIN the toolchain's; without the latter the machine's own C library serves.
+//! Programs of the repository, fed and read by threads of their own, so that no pipe fills up.
 use crate::values::Values;
-use std::env;
 use std::io::{Read, Write};
 use std::path::{Path, PathBuf};
 use std::process::{Child, ChildStdin, Command, Stdio};
@@ -24,31 +22,14 @@ pub struct Running {
     reads: JoinHandle<Vec<u8>>,
 }
 
-// The loader of the toolchain.
-fn loaded(toolchain: &str, program: &Path) -> Command {
-    let lib = Path::new(toolchain).join("lib");
-    let mut command = Command::new(lib.join("ld-linux-x86-64.so.2"));
-    command.arg("--library-path").arg(lib).arg(program);
-    command
-}
-
 fn program(name: &str) -> PathBuf {
-    let folder = env::var("LFO_PROGRAMS").unwrap_or(PROGRAMS.to_string());
-    Path::new(&folder).join(name).join("out").join(name)
+    Path::new(PROGRAMS).join(name).join("out").join(name)
 }
 
 /// Where a program should be that is not there.
 pub fn missing(name: &str) -> Option<PathBuf> {
     let program = program(name);
     (!program.exists()).then_some(program)
-}
-
-fn command(name: &str) -> Command {
-    let program = program(name);
-    match env::var("LFO_TOOLCHAIN") {
-        Ok(toolchain) => loaded(&toolchain, &program),
-        Err(_) => Command::new(program),
-    }
 }
 
 fn size(v: &mut Values) -> usize {
@@ -81,7 +62,7 @@ fn feed(mut to: ChildStdin, input: &[u8], pieces: Pieces) {
 
 /// Starts a program on an input.
 pub fn start(name: &str, input: Vec<u8>, pieces: Pieces) -> Running {
-    let piped = command(name)
+    let piped = Command::new(program(name))
         .stdin(Stdio::piped())
         .stdout(Stdio::piped())
         .stderr(Stdio::null())

@@ -1,5 +1,5 @@
 //! `sheets time ROUNDS`: times the program `sitting` against the Rust source, which prints the same sheets in two ways, on 40 sittings of 30 seconds, one process to
-//! a sitting. LFO_PROGRAMS names the folder of the crate `sitting` and LFO_TOOLCHAIN that of the toolchain with whose C library it runs.
+//! a sitting.
 //! `sheets write N` and `sheets hand N` print the sheet of sitting N by `write!` and by hand, `sheets sitting N` writes its bytes.
 #![allow(dead_code)]
 

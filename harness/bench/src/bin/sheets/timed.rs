@@ -9,6 +9,10 @@ use std::{array, env};
 
 const WAYS: [&str; 3] = ["write!", "by hand", "sitting"];
 const OURS: usize = 2;
+const OUR_PROGRAM: &str = concat!(
+    env!("CARGO_MANIFEST_DIR"),
+    "/../../crates/sitting/out/sitting"
+);
 
 /// Processor time in user mode, and time on the clock, in seconds.
 #[derive(Clone, Copy, Default)]
@@ -41,13 +45,8 @@ fn file(work: &Path, n: usize) -> PathBuf {
     work.join(format!("{n}.sitting"))
 }
 
-// With the toolchain's C library, as print-sheet runs a program.
 fn ours(work: &Path, n: usize) -> Command {
-    let folder = |name: &str| env::var(name).unwrap_or_else(|_| panic!("{name} is not set"));
-    let lib = PathBuf::from(folder("LFO_TOOLCHAIN")).join("lib");
-    let mut command = Command::new(lib.join("ld-linux-x86-64.so.2"));
-    command.arg("--library-path").arg(lib);
-    command.arg(PathBuf::from(folder("LFO_PROGRAMS")).join("sitting/out/sitting"));
+    let mut command = Command::new(OUR_PROGRAM);
     command.stdin(File::open(file(work, n)).expect("a sitting"));
     command
 }
