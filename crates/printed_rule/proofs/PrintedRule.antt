@@ -106,12 +106,12 @@ module _ (side : Side) where
   heard_front : (p : State) (cs : List Call) → Front (heard side p cs) (whole p cs)
   unfolding heard whole
   heard_front p [] = front_none
-  heard_front p (settings c ∷ cs) = edit_front (accepts p (settings c)) (heard_front _ cs)
-  heard_front p (shape c ∷ cs) = edit_front (accepts p (shape c)) (heard_front _ cs)
-  heard_front p (path c ∷ cs) = edit_front (accepts p (path c)) (heard_front _ cs)
-  heard_front p (bus k z ∷ cs) = edit_front (accepts p (bus k z)) (heard_front _ cs)
-  heard_front p (phase t ∷ cs) = phase_front (accepts p (phase t)) (heard_front _ cs)
-  heard_front p (block t n r x y ∷ cs) = block_front (accepts p (block t n r x y)) r n (Heard.read side p t n r x y) (heard_front _ cs)
+  heard_front p (settings c ∷ cs) = edit_front (accepts p (settings c)) (heard_front (step p (settings c)) cs)
+  heard_front p (shape c ∷ cs) = edit_front (accepts p (shape c)) (heard_front (step p (shape c)) cs)
+  heard_front p (path c ∷ cs) = edit_front (accepts p (path c)) (heard_front (step p (path c)) cs)
+  heard_front p (bus k z ∷ cs) = edit_front (accepts p (bus k z)) (heard_front (step p (bus k z)) cs)
+  heard_front p (phase t ∷ cs) = phase_front (accepts p (phase t)) (heard_front (step p (phase t)) cs)
+  heard_front p (block t n r x y ∷ cs) = block_front (accepts p (block t n r x y)) r n (Heard.read side p t n r x y) (heard_front (step p (block t n r x y)) cs)
 
   -- ---- as much as is counted
 
