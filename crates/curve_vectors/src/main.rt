@@ -465,5 +465,6 @@ fn main(rt: HostRuntime) -> io::Result<()> {
     path_of_no_length(&mut to)?;
     moving_path(&mut to)?;
     fine_path(&mut to)?;
-    many_path_points(&mut to)
+    many_path_points(&mut to)?;
+    to.flush()
 }

@@ -87,7 +87,8 @@ fn read_points(run: &[u8], from: Place, count: usize) -> PointsRead
     let mut i = 0;
     while i < count {
         let p = read_point(run, next);
-        if i < MAX_POINTS {
+        let kept_too = i < MAX_POINTS;
+        if kept_too {
             let codes = p.value;
             kept[i] = codes;
         }

@@ -163,5 +163,6 @@ fn main(rt: HostRuntime) -> io::Result<()> {
     if refused(&mut to, played.answer)? {
         return to.flush();
     }
-    show_weights(&mut to, x)
+    show_weights(&mut to, x)?;
+    to.flush()
 }

@@ -14,8 +14,8 @@ held n h = le→leb n (2 ^ 53) (le_of_lt h)
 pub int_to_float-result : goal.int_to_float-result
 int_to_float-result c =
     let n = c.args.n in
-    let h = c.if-n-lt9007199254740992.true in
+    let h = c.if-exact.true in
     subst (λ (z : ℤ). T (in_float binary64 z)) (sym (read_back n h)) (held n h)
 
-pub returns-then-n-lt9007199254740992 : goal.returns-then-n-lt9007199254740992
-returns-then-n-lt9007199254740992 c = ap (of_int binary64) (read_back c.args.n c.if-n-lt9007199254740992.true)
+pub returns-then-exact : goal.returns-then-exact
+returns-then-exact c = ap (of_int binary64) (read_back c.args.n c.if-exact.true)

@@ -7,7 +7,7 @@ use Rattle.runs.specs.Curves.{kept}
 use Rattle.fields.proofs.Places.{last}
 use Rattle.runs.proofs.Loops.{stored, passed}
 use Rattle.runs.proofs.shapes.read_points.Goals as goal
-use Rattle.runs.proofs.shapes.read_points.Goals.{then-i-lt-MAX_POINTS, else-i-lt-MAX_POINTS}
+use Rattle.runs.proofs.shapes.read_points.Goals.{then-kept_too, else-kept_too}
 
 pub loop-i-init : goal.loop-i-init
 unfolding kept
@@ -17,13 +17,13 @@ pub loop-i-preserved : goal.loop-i-preserved
 loop-i-preserved c =
     let inv = c.loop-i.invariant in (
       omega arith,
-      elim c.if-i-lt-MAX_POINTS.branch [
-        | then-i-lt-MAX_POINTS w ↦ rw w.kept-is (simp length-set inv.1)
-        | else-i-lt-MAX_POINTS w ↦ rw w.kept-is inv.1
+      elim c.if-kept_too.branch [
+        | then-kept_too w ↦ rw w.kept-is (simp length-set inv.1)
+        | else-kept_too w ↦ rw w.kept-is inv.1
       ],
-      elim c.if-i-lt-MAX_POINTS.branch [
-        | then-i-lt-MAX_POINTS w ↦ rw w.kept-is (stored _ _ _ _ _ _ _ inv.2 _ _ c.read_point-p.ensures)
-        | else-i-lt-MAX_POINTS w ↦ rw w.kept-is (passed _ _ _ _ _ _ _ inv.2 _ _ c.read_point-p.ensures (omega arith))
+      elim c.if-kept_too.branch [
+        | then-kept_too w ↦ rw w.kept-is (stored _ _ _ _ _ _ _ inv.2 _ _ c.read_point-p.ensures)
+        | else-kept_too w ↦ rw w.kept-is (passed _ _ _ _ _ _ _ inv.2 _ _ c.read_point-p.ensures (omega arith))
       ],
     )
 

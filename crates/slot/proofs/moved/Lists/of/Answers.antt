@@ -4,7 +4,7 @@ use Rattle.slot.proofs.moved.Lists.of.Goals as goal
 
 pub returns-then-is_path : goal.returns-then-is_path
 unfolding lists_of
-returns-then-is_path c = rw (← c.is_path.ensures, c.if-is_path.true, c.of_path.ensures)
+returns-then-is_path c = rw (← c.is_path.ensures, c.if-is_path.true) (cc)
 
 pub returns : goal.returns
 unfolding lists_of
