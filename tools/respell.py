@@ -5,7 +5,7 @@ It takes no arguments. The table is tools/respell.tsv, a row a name: old, a tab,
     local        a bound name of specs and lemma files alone
     prose        port.py turned it in the code: what comments, pages and edits still say
     NAME path    two columns: of that file alone, and only while the file still has NAME (the row's old spelling is what NAME turns to, so a second run would go on)
-A second run changes nothing. What turns, by whole tokens:
+A second run changes nothing; files that came after it (docs/PORT.md, and the answers and invariants that stand for a Proof.antt) are left alone. What turns, by whole tokens:
     crates/**/*.antt       the code but quoted text; in comments code spans, and bare words that the file's code has
     crates/**/*.rt         requires, ensures, 'ghost use'; comments as above
     crates/*/must-fail     the lines old: and new:, and comments as above
@@ -36,6 +36,7 @@ RUST = re.compile(
 MADE = re.compile(r"\.(?:ensures|result|given|requires|new|old)(?![\w'-])")
 DECLARED = re.compile(r"^ *(?:(?:pub|abbrev|unfoldable|field) )*((?:[^\s(){}.;,@\"«»]+ )+):(?: |$)", re.M)
 BLOCK = re.compile(r"(?<![^\s(){};,])(?:where|do|let|mutual) +(?=\S)")
+LATER = re.compile(r"^use \S+\.(?:Goals|Given) as goal$", re.M)
 CAPITAL = re.compile(r"[a-z0-9₀-₉][A-Z]")
 
 everywhere, local, prose, here = {}, {}, {}, collections.defaultdict(list)
@@ -221,6 +222,8 @@ def main():
     work += [(f, "other") for f in below("tools", "") if not f.startswith("tools/respell")]
     for path, kind in work:
         it = File(path, crates)
+        if path == "docs/PORT.md" or LATER.search(it.old):
+            continue
         new = getattr(it, kind)(it.old)
         if kind == "antt" and len(new) != len(it.old):
             new = realigned(it.old, new)
