@@ -1,4 +1,5 @@
 -- A block is one stretch, or two with a restart between them. Assumes nothing.
+use Rattle.std.specs.Prelude.{None, Option, Some}
 use mathlib.Core.Path.{◌≡◌, ap, ◌∙◌, subst}
 use mathlib.Core.List.{List, ◌++◌}
 use Prim.Native.Nat.{ℕ, ◌+◌, ◌-◌, ◌≤◌, min}
@@ -17,8 +18,6 @@ use Rattle.voice.specs.declared.generator.Kept.{Kept}
 use Rattle.voice.specs.Curve.{Curve}
 use Rattle.voice.specs.Frame.{Frame}
 use Rattle.voice.specs.Voice.{begun_voice, triggered_voice}
-use Rattle.bank.specs.declared.parts.Pending.{Pending}
-use Rattle.bank.specs.declared.parts.Pending.TheVariants.{None, At}
 use Rattle.bank.specs.declared.stretch.Rendered.{Rendered}
 use Rattle.bank.specs.Render.{voice_after, outs, last_count, Stretch, Renders}
 use Rattle.bank.specs.Parts.{begun, restarted, parts_voice, parts_outs, parts_count, PlaysParts}
@@ -41,15 +40,6 @@ module _ (s : Settings) (q : Curve) (b : Block) where
 
   abbrev size : (from : ℕ) (f : Frame → Float) (n : ℕ) (v : Voice) → length (values from f n v) ≡ n
   size = length_outs s.kind s.mode s.direction q b
-
-  -- a stretch leaves both buffers as long as they were
-  module _ {v u : Voice} {kept : Kept} {last : Float} {from count : ℕ} {x y x' y' : List Float} {r : Rendered} (asked : Stretch s q b v kept from count x y)
-      (h : Renders s q b u last from count x y r x' y') where
-    pub x_long : length x' ≡ length x
-    x_long = ap length h.x_is ∙ length_over x from _ (omega (arith, size from (λ f. f.x) count u, asked.room_x))
-
-    pub y_long : length y' ≡ length y
-    y_long = ap length h.y_is ∙ length_over y from _ (omega (arith, size from (λ f. f.y) count u, asked.room_y))
 
   -- what a stretch asks of its voice before it is begun holds of the voice that is begun
   pub begun_stretch : {v : Voice} {kept : Kept} {from count : ℕ} {x y : List Float} (w : Voice) → w ≡ begun_voice s b from v → Stretch s q b v kept from count x y → Stretch s q b w kept from count x y
@@ -138,7 +128,7 @@ module _ (s : Settings) (q : Curve) (b : Block) where
 
       -- one buffer
       both : (f : Frame → Float) (z z₁ : List Float) → z₁ ≡ over z 0 (values 0 f k before) → frames ≤ length z
-          → over z₁ k (values k f (frames - k) (begun_voice s b k w)) ≡ parts_outs s q b frames v (At at) f ++ drop frames z
+          → over z₁ k (values k f (frames - k) (begun_voice s b k w)) ≡ parts_outs s q b frames v (Some at) f ++ drop frames z
       unfolding parts_outs begun restarted
       both f z z₁ e room =
           ap (λ (l : List Float). over l k (values k f (frames - k) (begun_voice s b k w))) e
@@ -146,7 +136,7 @@ module _ (s : Settings) (q : Curve) (b : Block) where
           ∙ ap (λ (u : Voice). (values 0 f k before ++ values k f (frames - k) u) ++ drop frames z) starts
           ∙ ap (λ (m : ℕ). (values 0 f m before ++ values m f (frames - m) (again m)) ++ drop frames z) split
 
-      pub plays_restart : (r : Rendered) (x' y' : List Float) → Renders s q b (begun_voice s b k w) a.count k (frames - k) x₁ y₁ r x' y' → PlaysParts s q b v (At at) frames x y r x' y'
+      pub plays_restart : (r : Rendered) (x' y' : List Float) → Renders s q b (begun_voice s b k w) a.count k (frames - k) x₁ y₁ r x' y' → PlaysParts s q b v (Some at) frames x y r x' y'
       unfolding parts_voice parts_count begun restarted
       plays_restart r x' y' h =
           record {
@@ -165,9 +155,9 @@ module _ (s : Settings) (q : Curve) (b : Block) where
           }
 
   -- a block has one value for each frame
-  pub length_parts : (n : ℕ) (v : Voice) (at : Pending) (f : Frame → Float) → length (parts_outs s q b n v at f) ≡ n
+  pub length_parts : (n : ℕ) (v : Voice) (at : Option ℕ) (f : Frame → Float) → length (parts_outs s q b n v at f) ≡ n
   unfolding parts_outs
   length_parts n v None f = size 0 f n (begun s q b n v)
-  length_parts n v (At at) f =
+  length_parts n v (Some at) f =
       let k = min at n in
       simp (length-append, size 0 f k (begun s q b n v), size k f (n - k) (restarted s q b n v k)) (omega (arith, min-le_right at n))

@@ -1,4 +1,5 @@
 -- Laws of a stretch of frames: how many values it gives, how far its anchor counts, and one frame made of the four calls of the loop. Assumes nothing.
+use Rattle.std.specs.Prelude.{Option}
 use mathlib.Core.Path.{◌≡◌, refl}
 use Prim.Native.Nat.{ℕ, zero, suc, ◌+◌, ◌≤◌}
 use native.Mathlib.Omega.{arith}
@@ -12,7 +13,6 @@ use Rattle.settings.specs.declared.choices.LfoType.{LfoType}
 use Rattle.settings.specs.declared.choices.Mode.{Mode}
 use Rattle.settings.specs.declared.choices.Direction.{Direction}
 use Rattle.voice.specs.declared.Voice.{Voice}
-use Rattle.voice.specs.declared.begun.MadeFor.{MadeFor}
 use Rattle.voice.specs.declared.source.Source.{Source}
 use Rattle.voice.specs.declared.output.Output.{Output}
 use Rattle.voice.specs.declared.output.Posted.{Posted}
@@ -44,7 +44,7 @@ module _ (kind : LfoType) (mode : Mode) (direction : Direction) (q : Curve) (b :
     count_after (suc n) v = omega (arith, count_after n v, frame_count (from + n) (voice_after kind mode direction q b from n v))
 
   -- one frame, of the four calls of the loop
-  pub frame_is : (k : ℕ) (a a' : Anchor) (s s' : Source) (o : Output) (m : MadeFor) (c x y : Float) (p : Posted)
+  pub frame_is : (k : ℕ) (a a' : Anchor) (s s' : Source) (o : Output) (m : Option LfoType) (c x y : Float) (p : Posted)
       → c ≡ count_at mode b a k → a' ≡ next_anchor a → s' ≡ source_after kind mode b s c
       → x ≡ (raw_of kind mode direction q (source_after kind mode b s c) c).x → y ≡ (raw_of kind mode direction q (source_after kind mode b s c) c).y
       → p ≡ posted kind b.smooth o x y

@@ -1,4 +1,5 @@
 -- A block played stretch by stretch: where it stands before a stretch, what the stretch asks, and where it stands after it. Assumes nothing.
+use Rattle.std.specs.Prelude.{None, Option, Some}
 use Prim.Native.Nat.{ℕ, ◌-◌, ◌≤◌, ◌<◌}
 use mathlib.Core.Path.{◌≡◌, refl, sym, ◌∙◌}
 use mathlib.Core.Logic.{◌⊎◌, inl, inr}
@@ -12,8 +13,6 @@ use Rattle.voice.specs.declared.Voice.{Voice}
 use Rattle.voice.specs.declared.generator.Kept.{Kept}
 use Rattle.voice.specs.Curve.{Curve}
 use Rattle.voice.specs.Voice.{begun_voice, triggered_voice}
-use Rattle.bank.specs.declared.parts.Pending.{Pending}
-use Rattle.bank.specs.declared.parts.Pending.TheVariants.{None, At}
 use Rattle.bank.specs.declared.stretch.Rendered.{Rendered}
 use Rattle.bank.specs.Render.{Stretch, Renders}
 use Rattle.bank.specs.Parts.{stretches_of, first_end, between_of, PlaysParts}
@@ -25,15 +24,15 @@ minus_none n = omega arith
 abbrev pub rendered : Voice → Kept → Float → Rendered
 rendered w held last = record { voice = w; kept = held; count = last }
 
-one_or_two : (at : Pending) → (stretches_of at ≡ 1) ⊎ (stretches_of at ≡ 2)
+one_or_two : (at : Option ℕ) → (stretches_of at ≡ 1) ⊎ (stretches_of at ≡ 2)
 unfolding stretches_of
 one_or_two None = inl refl
-one_or_two (At k) = inr refl
+one_or_two (Some k) = inr refl
 
-first_within : (at : Pending) (frames : ℕ) → first_end at frames ≤ frames
+first_within : (at : Option ℕ) (frames : ℕ) → first_end at frames ≤ frames
 unfolding first_end
 first_within None frames = omega arith
-first_within (At k) frames = omega arith
+first_within (Some k) frames = omega arith
 
 -- of a block of `frames` frames for the voice v, whose first stretch of `stretches` ends at `split`
 module _ (s : Settings) (q : Curve) (b : Block) (v : Voice) (kept : Kept) (frames split stretches : ℕ) (x₀ y₀ : List Float) where
@@ -43,7 +42,7 @@ module _ (s : Settings) (q : Curve) (b : Block) (v : Voice) (kept : Kept) (frame
     within : split ≤ frames
     some : (stretches ≡ 1) ⊎ (stretches ≡ 2)
 
-  pub opens : (at : Pending) → split ≡ first_end at frames → stretches ≡ stretches_of at → Stretch s q b v kept 0 frames x₀ y₀ → Opened
+  pub opens : (at : Option ℕ) → split ≡ first_end at frames → stretches ≡ stretches_of at → Stretch s q b v kept 0 frames x₀ y₀ → Opened
   opens at first count h = record { ready = h; within = rw first (first_within at frames); some = rw count (one_or_two at) }
 
   -- where it stands, with `left` stretches left, the next of them from `from` to `end`
@@ -54,7 +53,7 @@ module _ (s : Settings) (q : Curve) (b : Block) (v : Voice) (kept : Kept) (frame
     again : left ≡ 1 → stretches ≡ 2 → from ≡ split → end ≡ frames → (a : Rendered) → Renders s q b (begun_voice s b 0 v) f64_0 0 split x₀ y₀ a x y
         → w ≡ triggered_voice s b a.voice → held ≡ a.kept → last ≡ a.count → Stage x y w held last from end left
     -- all are
-    done : left ≡ 0 → ((at : Pending) → stretches_of at ≡ stretches → first_end at frames ≡ split → PlaysParts s q b v at frames x₀ y₀ (rendered w held last) x y)
+    done : left ≡ 0 → ((at : Option ℕ) → stretches_of at ≡ stretches → first_end at frames ≡ split → PlaysParts s q b v at frames x₀ y₀ (rendered w held last) x y)
         → Stage x y w held last from end left
 
   module _ (o : Opened) where
@@ -68,19 +67,19 @@ module _ (s : Settings) (q : Curve) (b : Block) (v : Voice) (kept : Kept) (frame
 
     module _ (a : Rendered) (x' y' : List Float) (w' : Voice) where
       -- a block of one stretch
-      through : w' ≡ a.voice → Renders s q b (begun_voice s b 0 v) f64_0 0 split x₀ y₀ a x' y' → (at : Pending) → stretches_of at ≡ 1 → first_end at frames ≡ split
+      through : w' ≡ a.voice → Renders s q b (begun_voice s b 0 v) f64_0 0 split x₀ y₀ a x' y' → (at : Option ℕ) → stretches_of at ≡ 1 → first_end at frames ≡ split
           → PlaysParts s q b v at frames x₀ y₀ (rendered w' a.kept a.count) x' y'
       unfolding stretches_of first_end
       through e r None one whole = rw e (plays_through s q b v frames x₀ y₀ a x' y' (rw (← whole) at r))
-      through e r (At k) one whole = absurd (omega (arith, one))
+      through e r (Some k) one whole = absurd (omega (arith, one))
 
       -- and of two
       restarted : w' ≡ a.voice → (a₁ : Rendered) (x y : List Float) → Renders s q b (begun_voice s b 0 v) f64_0 0 split x₀ y₀ a₁ x y → (w : Voice) → w ≡ triggered_voice s b a₁.voice
-          → Renders s q b (begun_voice s b split w) a₁.count split (frames - split) x y a x' y' → (at : Pending) → stretches_of at ≡ 2 → first_end at frames ≡ split
+          → Renders s q b (begun_voice s b split w) a₁.count split (frames - split) x y a x' y' → (at : Option ℕ) → stretches_of at ≡ 2 → first_end at frames ≡ split
           → PlaysParts s q b v at frames x₀ y₀ (rendered w' a.kept a.count) x' y'
       unfolding stretches_of first_end
       restarted e a₁ x y f w on r None two split_is = absurd (omega (arith, two))
-      restarted e a₁ x y f w on r (At k) two split_is =
+      restarted e a₁ x y f w on r (Some k) two split_is =
           rw e
           (plays_restart s q b v frames x₀ y₀ k split (sym split_is) o.within (omega (arith, o.ready.room_x)) (omega (arith, o.ready.room_y)) a₁ x y f w on a x' y' r)
 
@@ -108,7 +107,7 @@ module _ (s : Settings) (q : Curve) (b : Block) (v : Voice) (kept : Kept) (frame
       next_stretch (done el p) h = absurd (omega (arith, el, h))
 
       -- and what is played when none is left
-      pub all_played : Stage x y w held last from end left → left ≡ 0 → (at : Pending) → stretches_of at ≡ stretches → first_end at frames ≡ split
+      pub all_played : Stage x y w held last from end left → left ≡ 0 → (at : Option ℕ) → stretches_of at ≡ stretches → first_end at frames ≡ split
           → PlaysParts s q b v at frames x₀ y₀ (rendered w held last) x y
       all_played (ahead ew eh el ef ee en ex ey) e = absurd (never (omega (arith, en, e)))
       all_played (again el es ef ee a f ew eh ec) e = absurd (omega (arith, el, e))
@@ -124,10 +123,10 @@ module _ (s : Settings) (q : Curve) (b : Block) (v : Voice) (kept : Kept) (frame
 
           by : (stretches ≡ 1) ⊎ (stretches ≡ 2) → Stage x' y' w' a.kept a.count end frames (left - 1)
           by (inl one) =
-              done (omega (arith, en, one)) (λ (at : Pending) (n : stretches_of at ≡ stretches) (k : first_end at frames ≡ split).
+              done (omega (arith, en, one)) (λ (at : Option ℕ) (n : stretches_of at ≡ stretches) (k : first_end at frames ≡ split).
               through a x' y' w' (e ∙ last_voice left a.voice (en ∙ one)) r' at (n ∙ one) k)
           by (inr two) = again (omega (arith, en, two)) two ee refl a r' (e ∙ next_voice left a.voice (en ∙ two)) refl refl
       one_more (again el es ef ee a₁ f ew eh ec) h a x' y' r w' e =
-          done (omega (arith, el)) (λ (at : Pending) (n : stretches_of at ≡ stretches) (k : first_end at frames ≡ split).
+          done (omega (arith, el)) (λ (at : Option ℕ) (n : stretches_of at ≡ stretches) (k : first_end at frames ≡ split).
           restarted a x' y' w' (e ∙ last_voice left a.voice el) a₁ x y f w ew (rw (ef, ee, ec) at r) at (n ∙ es) k)
       one_more (done el p) h a x' y' r w' e = absurd (omega (arith, el, h))

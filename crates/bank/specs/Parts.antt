@@ -1,6 +1,6 @@
 -- A block of one voice, as `render_parts` of lfo/bank.rs has it: the voice begins, plays the frames before the restart, restarts, begins again and plays the frames from the restart on.
 -- Assumes nothing.
-use Rattle.std.specs.Prelude.{ℕ, ◌-◌, min, ◌≡◌, cond, List, ◌++◌, eqb, drop, Float}
+use Rattle.std.specs.Prelude.{ℕ, ◌-◌, min, ◌≡◌, cond, List, ◌++◌, eqb, drop, Float, None, Option, Some}
 use Rattle.floatlaws.specs.Numbers.{f64_0}
 use Rattle.clock.specs.declared.block.Block.{Block}
 use Rattle.settings.specs.declared.record.Settings.{Settings}
@@ -8,8 +8,6 @@ use Rattle.voice.specs.declared.Voice.{Voice}
 use Rattle.voice.specs.Curve.{Curve, KeptFor}
 use Rattle.voice.specs.Frame.{Frame}
 use Rattle.voice.specs.Voice.{begun_voice, triggered_voice}
-use Rattle.bank.specs.declared.parts.Pending.{Pending}
-use Rattle.bank.specs.declared.parts.Pending.TheVariants.{None, At}
 use Rattle.bank.specs.declared.stretch.Rendered.{Rendered}
 use Rattle.bank.specs.Render.{voice_after, outs, last_count}
 
@@ -38,31 +36,31 @@ module _ (s : Settings) (q : Curve) (b : Block) (frames : ℕ) (v : Voice) where
   restarted k = begun_voice s b k (triggered_voice s b (reaching k))
 
   -- the voice after the block
-  unfoldable pub parts_voice : Pending → Voice
+  unfoldable pub parts_voice : Option ℕ → Voice
   parts_voice None = reaching frames
-  parts_voice (At at) = let k = min at frames in after k (frames - k) (restarted k)
+  parts_voice (Some at) = let k = min at frames in after k (frames - k) (restarted k)
 
   -- one value of each frame
-  unfoldable pub parts_outs : Pending → (Frame → Float) → List Float
+  unfoldable pub parts_outs : Option ℕ → (Frame → Float) → List Float
   parts_outs None f = values 0 f frames begun
-  parts_outs (At at) f = let k = min at frames in values 0 f k begun ++ values k f (frames - k) (restarted k)
+  parts_outs (Some at) f = let k = min at frames in values 0 f k begun ++ values k f (frames - k) (restarted k)
 
   -- the swung cycle count of the last frame, 0 where there is none
-  unfoldable pub parts_count : Pending → Float
+  unfoldable pub parts_count : Option ℕ → Float
   parts_count None = last 0 frames begun f64_0
-  parts_count (At at) = let k = min at frames in last k (frames - k) (restarted k) (last 0 k begun f64_0)
+  parts_count (Some at) = let k = min at frames in last k (frames - k) (restarted k) (last 0 k begun f64_0)
 
 -- ---- how the code goes through it
 
 -- how many stretches there are
-unfoldable pub stretches_of : Pending → ℕ
+unfoldable pub stretches_of : Option ℕ → ℕ
 stretches_of None = 1
-stretches_of (At at) = 2
+stretches_of (Some at) = 2
 
 -- where the first of them ends
-unfoldable pub first_end : Pending → ℕ → ℕ
+unfoldable pub first_end : Option ℕ → ℕ → ℕ
 first_end None frames = frames
-first_end (At at) frames = min at frames
+first_end (Some at) frames = min at frames
 
 -- the voice after a stretch: restarted where another one is left
 unfoldable pub between_of : ℕ → Settings → Block → Voice → Voice
@@ -71,7 +69,7 @@ between_of left s b v = cond (eqb left 0) v (triggered_voice s b v)
 -- ---- the code's promises
 
 -- of a block: both buffers hold its values and then what they held
-pub record PlaysParts (s : Settings) (q : Curve) (b : Block) (v : Voice) (at : Pending) (frames : ℕ) (x y : List Float) (r : Rendered) (x' y' : List Float) : Type 0 where
+pub record PlaysParts (s : Settings) (q : Curve) (b : Block) (v : Voice) (at : Option ℕ) (frames : ℕ) (x y : List Float) (r : Rendered) (x' y' : List Float) : Type 0 where
   pub voice_is : r.voice ≡ parts_voice s q b frames v at
   pub count_is : r.count ≡ parts_count s q b frames v at
   pub x_is : x' ≡ parts_outs s q b frames v at (λ f. f.x) ++ drop frames x

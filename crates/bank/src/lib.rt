@@ -4,5 +4,5 @@
 mod parts;
 mod stretch;
 
-pub use parts::{Pending, render_parts};
+pub use parts::render_parts;
 pub use stretch::Rendered;

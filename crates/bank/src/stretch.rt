@@ -1,85 +1,46 @@
 // A stretch of frames of one voice.
-ghost use Rattle.voice.specs.Curve.{curve_by};
+ghost use Rattle.voice.specs.Curve.{curve_of};
 ghost use Rattle.bank.specs.Render.{Stretch, Renders};
 
 use clock::Block;
-use path_segments::MAX_TIMES;
-use points::MAX_POINTS;
-use position::LoopPoint;
 use settings::Settings;
-use voice::{Kept, Voice};
+use voice::{CurveView, Kept, Voice};
 
-// The voice and the kept segments after a stretch, and the cycle count of its last frame.
-#[derive(Drop)]
+// The voice and the kept segments after a stretch, and the cycle count of its last frame; at first 0.
+#[derive(Clone, Copy)]
 pub struct Rendered {
     pub voice: Voice,
     pub kept: Kept,
     pub count: f64,
 }
 
-// Plays `count` frames from sample `from` of the block on. The points' arrays are lent; `last` is the answer's count where there is no frame.
-pub fn render<'a>(
+// Plays `count` frames more, from sample `from` of the block on.
+// x and y are no struct: with a `&mut` in a struct each clause on it would name that reference (`ghost_name`).
+pub fn render(
     s: Settings,
     block: Block,
-    xs: &'a [f32; MAX_POINTS],
-    ys: &'a [f32; MAX_POINTS],
-    es: &'a [f32; MAX_POINTS],
-    steps: &'a [bool; MAX_POINTS],
-    n: usize,
-    times: &'a [f32; MAX_TIMES],
-    closed: bool,
-    loopback: LoopPoint,
-    v: Voice,
-    kept: Kept,
-    last: f64,
+    curve: CurveView,
+    mut r: Rendered,
     from: usize,
     count: usize,
     x: &mut [f32],
     y: &mut [f32],
 ) -> Rendered
-    requires { Stretch s (curve_by xs.now ys.now es.now steps.now n times.now closed loopback) block v kept from count x.old y.old }
-    ensures { Renders s (curve_by xs.now ys.now es.now steps.now n times.now closed loopback) block v last from count x.old y.old result x.new y.new }
+    requires { Stretch s (curve_of curve) block r.voice r.kept from count x.old y.old }
+    ensures { Renders s (curve_of curve.entry) block r.voice r.count from count x.old y.old result x.new y.new }
 {
-    let kind = s.kind;
-    let mode = s.mode;
-    let direction = s.direction;
-    let smooth = block.smooth;
-    let made_for = v.made_for;
-    let mut anchor = v.anchor;
-    let mut source = v.source;
-    let mut output = v.output;
-    let mut held = kept;
-    let mut c = last;
-    let mut j = 0usize;
-    while j < count {
+    // Over `from..from + count` a frame takes 0.4 ns more of Drawn and 0.6 of Path.
+    for j in 0..count {
         let k = from + j;
-        c = voice::count(mode, block, anchor, k as u64);
-        let next = anchor.next();
-        anchor = next;
-        let g = voice::generate(
-            kind, mode, direction, block, source, held, xs, ys, es, steps, n, times, closed,
-            loopback, c,
-        );
-        let after = g.source;
-        source = after;
-        let found = g.kept;
-        held = found;
-        let p = voice::put(kind, smooth, output, g.x, g.y);
-        let out = p.output;
-        output = out;
+        r.count = voice::count(s.mode, block, r.voice.anchor, k as u64);
+        r.voice.anchor = r.voice.anchor.next();
+        let g = voice::generate(s, block, r.voice.source, r.kept, curve, r.count);
+        r.voice.source = g.source;
+        r.kept = g.kept;
+        let p = voice::put(s.kind, block.smooth, r.voice.output, g.x, g.y);
+        r.voice.output = p.output;
         x[k] = p.x;
         y[k] = p.y;
-        j += 1;
     }
-    let voice = Voice {
-        anchor,
-        source,
-        output,
-        made_for,
-    };
-    Rendered {
-        voice,
-        kept: held,
-        count: c,
-    }
+    r
 }

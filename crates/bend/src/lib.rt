@@ -17,7 +17,7 @@ pub use table::entries;
 fn scaled(curve: f32) -> f64
     ensures { result ≡ clamped_curve curve ×₆₄ f64_1024 }
 {
-    std::num::f32_to_f64_with_nan(extrema::clamp_f32(curve, -1.0, 1.0)) * 1024.0
+    std::num::f32_to_f64_with_nan(extrema::clamp(curve, -1.0, 1.0)) * 1024.0
 }
 
 // Whether the clamped curve is a multiple of 1/1024.

@@ -1,4 +1,5 @@
 -- The frames played are those of the accepted blocks; calls one after the other. Assumes nothing.
+use Rattle.std.specs.Prelude.{None, Option, Some}
 use Prim.Native.Nat.{ℕ, ◌+◌}
 use mathlib.Core.Path.{◌≡◌, refl, sym, ap, ◌∙◌}
 use mathlib.Core.Bool.{Bool, true, false, cond}
@@ -6,8 +7,6 @@ use mathlib.Core.List.{List, [], ◌∷◌, ◌++◌}
 use native.Mathlib.Nat.{add-zero, zero-add, add_assoc}
 use lib.ListN.{length}
 use Rattle.codes.specs.declared.SettingsCodes.{SettingsCodes}
-use Rattle.settings.specs.declared.record.SettingsCode.{SettingsCode}
-use Rattle.settings.specs.declared.record.SettingsCode.TheVariants as SettingsCode
 use Rattle.settings.specs.Codes.{settings_at}
 use Rattle.questions.specs.Questions.{first_no, block_questions}
 use Rattle.calls.specs.State.{State, new_state, with_settings, with_shape, with_path, with_bus}
@@ -15,6 +14,7 @@ use Rattle.calls.specs.Blocks.{played_state}
 use Rattle.calls.specs.Calls.{Call, settings, shape, path, bus, phase, block, questions, answer, accepts, by_settings, no_player, makes, made, accepted, step, after}
 use Rattle.calls.specs.Laws.{frames_of, frames_in, CallCounts, ListCounts}
 use Rattle.calls.proofs.Blocks.{block_transport}
+use Rattle.settings.specs.declared.record.Settings.{Settings}
 
 -- ---- one call
 
@@ -23,10 +23,10 @@ none_played : (p q : State) (b : Bool) → q.played ≡ p.played → (cond b q p
 none_played p q true e = e ∙ sym (add-zero p.played)
 none_played p q false e = sym (add-zero p.played)
 
-settings_played : (p : State) (z : SettingsCode) → (by_settings p z (with_settings p)).played ≡ p.played
+settings_played : (p : State) (z : Option Settings) → (by_settings p z (with_settings p)).played ≡ p.played
 unfolding with_settings
-settings_played p (SettingsCode.Known s) = refl
-settings_played p SettingsCode.Unknown = refl
+settings_played p (Some s) = refl
+settings_played p None = refl
 
 block_played : (p q : State) (b : Bool) (frames : ℕ) → (b ≡ true → q.played ≡ p.played + frames) → (cond b q p).played ≡ p.played + cond b frames 0
 block_played p q true frames e = e refl
@@ -61,9 +61,9 @@ made_played : (codes : SettingsCodes) (seed : ℕ) → (made codes seed).played 
 unfolding made new_state
 made_played codes seed = by (makes codes) (settings_at codes)
   where
-    by : (b : Bool) (z : SettingsCode) → (cond b (by_settings (no_player seed) z (λ s. new_state s seed)) (no_player seed)).played ≡ 0
-    by true (SettingsCode.Known s) = refl
-    by true SettingsCode.Unknown = refl
+    by : (b : Bool) (z : Option Settings) → (cond b (by_settings (no_player seed) z (λ s. new_state s seed)) (no_player seed)).played ≡ 0
+    by true (Some s) = refl
+    by true None = refl
     by false z = refl
 
 made_counts : (codes : SettingsCodes) (seed : ℕ) (calls : List Call) → (after (made codes seed) calls).played ≡ frames_in (made codes seed) calls

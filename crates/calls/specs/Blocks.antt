@@ -1,13 +1,11 @@
 -- A block of a player, as `process_scalar` of lfo/bank.rs plays it. Assumes nothing.
-use Rattle.std.specs.Prelude.{ℕ, ◌+◌, Bool, cond, List, Float}
+use Rattle.std.specs.Prelude.{ℕ, ◌+◌, Bool, cond, List, Float, None, Option, Some}
 use Rattle.settings.specs.declared.record.Transport.{Transport}
 use Rattle.position.specs.Rest.{finished_of}
 use Rattle.clock.specs.declared.ready.Prepared.{Prepared}
 use Rattle.clock.specs.Ready.{prepared_of, phase_read}
 use Rattle.voice.specs.Curve.{Curve}
 use Rattle.voice.specs.Frame.{Frame}
-use Rattle.bank.specs.declared.parts.Pending.{Pending}
-use Rattle.bank.specs.declared.parts.Pending.TheVariants as Pending
 use Rattle.bank.specs.Parts.{parts_voice, parts_outs, parts_count}
 use Rattle.slot.specs.Slot.{slot_curve, clocked_lfo}
 use Rattle.curves.specs.Given.{is_yes}
@@ -15,11 +13,11 @@ use Rattle.codes.specs.declared.RestartCodes.{RestartCodes}
 use Rattle.calls.specs.State.{State}
 
 -- the restart that a block carries, if any
-unfoldable pub pending_of : RestartCodes → Pending
-pending_of c = cond (is_yes c.code) (Pending.At c.frame) Pending.None
+unfoldable pub pending_of : RestartCodes → Option ℕ
+pending_of c = cond (is_yes c.code) (Some c.frame) None
 
 -- of `frames` frames from the transport t at its first sample, restarted where `at` says
-module _ (p : State) (t : Transport) (frames : ℕ) (at : Pending) where
+module _ (p : State) (t : Transport) (frames : ℕ) (at : Option ℕ) where
   -- the block, and the clock after it
   abbrev pub prepared : Prepared
   prepared = prepared_of p.lfo.settings p.lfo.clock t frames

@@ -1,13 +1,9 @@
 -- The calls on a player: the number that each answers, the player that it leaves, and what a block writes. Assumes nothing.
-use Rattle.std.specs.Prelude.{ℕ, Bool, true, false, cond, List, [], ◌∷◌, ◌++◌, eqb, length, drop, Float}
+use Rattle.std.specs.Prelude.{ℕ, Bool, true, false, cond, List, [], ◌∷◌, ◌++◌, eqb, length, drop, Float, None, Option, Some}
 use Rattle.settings.specs.declared.record.Settings.{Settings}
 use Rattle.codes.specs.declared.SettingsCodes.{SettingsCodes}
-use Rattle.settings.specs.declared.record.SettingsCode.{SettingsCode}
-use Rattle.settings.specs.declared.record.SettingsCode.TheVariants as SettingsCode
 use Rattle.settings.specs.declared.record.Transport.{Transport}
 use Rattle.codes.specs.declared.TransportCodes.{TransportCodes}
-use Rattle.settings.specs.declared.record.TransportCode.{TransportCode}
-use Rattle.settings.specs.declared.record.TransportCode.TheVariants as TransportCode
 use Rattle.settings.specs.Codes.{settings_at, transport_at}
 use Rattle.settings.specs.Records.{default_settings}
 use Rattle.voice.specs.Frame.{Frame}
@@ -63,13 +59,13 @@ accepts p c = eqb (answer p c) 0
 
 -- ---- what is known of codes; where a code is not known, u
 
-abbrev pub by_settings : {A : Type 0} → A → SettingsCode → (Settings → A) → A
-by_settings u (SettingsCode.Known s) f = f s
-by_settings u SettingsCode.Unknown f = u
+abbrev pub by_settings : {A : Type 0} → A → Option Settings → (Settings → A) → A
+by_settings u (Some s) f = f s
+by_settings u None f = u
 
-abbrev pub by_transport : {A : Type 0} → A → TransportCode → (Transport → A) → A
-by_transport u (TransportCode.Known t) f = f t
-by_transport u TransportCode.Unknown f = u
+abbrev pub by_transport : {A : Type 0} → A → Option Transport → (Transport → A) → A
+by_transport u (Some t) f = f t
+by_transport u None f = u
 
 -- ---- making a player
 

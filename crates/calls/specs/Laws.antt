@@ -1,22 +1,17 @@
 -- What document 01 says of every call, as statements about the definitions of Calls. They are proved in proofs/. Assumes nothing.
-use Rattle.std.specs.Prelude.{ℕ, ◌+◌, ◌≡◌, true, false, cond, List, [], ◌∷◌, ◌++◌, length, get_or, take, drop, Float}
+use Rattle.std.specs.Prelude.{ℕ, ◌+◌, ◌≡◌, true, false, cond, List, [], ◌∷◌, ◌++◌, length, get_or, take, drop, Float, Option, Some, None}
 use Rattle.std.specs.Float.{nan}
 use Rattle.std.specs.Float.Ieee.{eq}
 use Rattle.codes.specs.declared.SettingsCodes.{SettingsCodes}
 use Rattle.settings.specs.declared.choices.LfoType.TheVariants.{Drawn}
 use Rattle.settings.specs.declared.record.Transport.{Transport}
 use Rattle.codes.specs.declared.TransportCodes.{TransportCodes}
-use Rattle.settings.specs.declared.record.TransportCode.TheVariants as TransportCode
 use Rattle.settings.specs.Codes.{transport_at}
-use Rattle.shape.specs.declared.Loopback.TheVariants as Loopback
 use Rattle.shape.specs.Shapes.{modulated_of}
-use Rattle.position.specs.declared.place.LoopPoint.TheVariants as LoopPoint
 use Rattle.position.specs.Rest.{finished_of}
-use Rattle.clock.specs.declared.block.SongLock.TheVariants as SongLock
 use Rattle.clock.specs.Free.{anchored_clock}
 use Rattle.clock.specs.Ready.{pace_at, lock_at}
 use Rattle.voice.specs.Frame.{Frame}
-use Rattle.bank.specs.declared.parts.Pending.{Pending}
 use Rattle.codes.specs.declared.RestartCodes.{RestartCodes}
 use Rattle.questions.specs.Questions.{Question, first_no, block_questions}
 use Rattle.calls.specs.State.{State}
@@ -65,7 +60,7 @@ module _ (p : State) (c : TransportCodes) (frames : ℕ) (restart : RestartCodes
   -- of a buffer, of which f is the frame's value: exactly `frames` values, and then what it held, "to the last element"
   pub record Writes (f : Frame → Float) (before : List Float) : Type 0 where
     pub t : Transport
-    pub known : transport_at c ≡ TransportCode.Known t
+    pub known : transport_at c ≡ Some t
     pub count : length (values p t frames (pending_of restart) f) ≡ frames
     pub first : take frames (buffer p c frames restart x y f before) ≡ values p t frames (pending_of restart) f
     pub rest : drop frames (buffer p c frames restart x y f before) ≡ drop frames before
@@ -85,7 +80,7 @@ BlockWrites =
 abbrev pub ClockCounts : Type 0
 ClockCounts =
     (p : State) (c : TransportCodes) (frames : ℕ) (restart : RestartCodes) (x y : List Float) (t : Transport)
-    → accepts p (block c frames restart x y) ≡ true → transport_at c ≡ TransportCode.Known t → lock_at p.lfo.settings t ≡ SongLock.None
+    → accepts p (block c frames restart x y) ≡ true → transport_at c ≡ Some t → lock_at p.lfo.settings t ≡ None
     → (step p (block c frames restart x y)).lfo.clock.n ≡ (anchored_clock p.lfo.clock (pace_at p.lfo.settings t).inc).n + frames
 
 -- finished goes by "the modulated x of the loopback point of a Drawn curve": of its point i, moved by the buses
@@ -94,8 +89,8 @@ modulated_x p i = get_or (modulated_of p.lfo.shape.points p.lfo.shape.len p.lfo.
 
 abbrev pub FinishedByLoopback : Type 0
 FinishedByLoopback =
-    (p : State) (t : Transport) (frames : ℕ) (at : Pending) (i : ℕ) → p.lfo.settings.kind ≡ Drawn → p.lfo.shape.loopback ≡ Loopback.At i
-    → finished p t frames at ≡ finished_of Drawn p.lfo.settings.mode p.lfo.settings.direction (LoopPoint.At (modulated_x p i)) (end_count p t frames at)
+    (p : State) (t : Transport) (frames : ℕ) (at : Option ℕ) (i : ℕ) → p.lfo.settings.kind ≡ Drawn → p.lfo.shape.loopback ≡ Some i
+    → finished p t frames at ≡ finished_of Drawn p.lfo.settings.mode p.lfo.settings.direction (Some (modulated_x p i)) (end_count p t frames at)
 
 -- ---- "the frames played since the player was made"
 

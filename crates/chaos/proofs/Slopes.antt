@@ -1,10 +1,10 @@
 -- What the proofs of `heun::step`, `advance` and `run_up` cite, over plain variables: the parts of a Heun step, and one step more. Assumes nothing.
 use mathlib.Core.Path.{◌≡◌, sym, ap, ◌∙◌}
-use mathlib.Core.Bool.{Bool}
 use Prim.Native.Nat.{ℕ, ◌+◌}
 use native.Mathlib.Numerals.{add-one}
 use lib.Ieee.{Float, binary32, mul}
 use Rattle.floatlaws.specs.Numbers.{f32}
+use Rattle.chaos.specs.declared.law.Attractor.{Attractor}
 use Rattle.chaos.specs.declared.law.State.{State}
 use Rattle.chaos.specs.Heun.{◌⊕◌, ◌⊙◌, heun, iterate}
 use Rattle.chaos.specs.Law.{field_of}
@@ -15,9 +15,9 @@ module _ (f : State → State) (h : Float) (y : State) {k1 y1 k2 k y2 : State} w
   in_a_row first there second both arrived = rw (arrived, both, second, there, first)
 
 -- the state after n steps of h from s
-abbrev pub after : Bool → Float → State → ℕ → State
-after lorenz h s n = iterate n (heun (field_of lorenz) h) s
+abbrev pub after : Attractor → Float → State → ℕ → State
+after attractor h s n = iterate n (heun (field_of attractor) h) s
 
-pub one_more : (lorenz : Bool) (h : Float) (s : State) (n : ℕ) {at next : State} → at ≡ after lorenz h s n → next ≡ heun (field_of lorenz) h at → next ≡ after lorenz h s (n + 1)
+pub one_more : (attractor : Attractor) (h : Float) (s : State) (n : ℕ) {at next : State} → at ≡ after attractor h s n → next ≡ heun (field_of attractor) h at → next ≡ after attractor h s (n + 1)
 unfolding iterate
-one_more lorenz h s n here there = there ∙ ap (heun (field_of lorenz) h) here ∙ ap (after lorenz h s) (sym (add-one n))
+one_more attractor h s n here there = there ∙ ap (heun (field_of attractor) h) here ∙ ap (after attractor h s) (sym (add-one n))

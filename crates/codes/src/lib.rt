@@ -74,7 +74,7 @@ pub struct TransportCodes {
 // ---- curves
 
 // A point-modulation input: code 0 where it is absent, and 1 where it is present.
-#[derive(Clone, Copy)]
+#[derive(Clone, Copy, Default)]
 pub struct ModCodes {
     pub code: u64,
     pub bus: u8,
@@ -82,7 +82,7 @@ pub struct ModCodes {
 }
 
 // One point of a shape.
-#[derive(Clone, Copy)]
+#[derive(Clone, Copy, Default)]
 pub struct PointCodes {
     pub x: f32,
     pub y: f32,
@@ -108,7 +108,7 @@ pub struct ShapeCodes {
 }
 
 // One point of a path.
-#[derive(Clone, Copy)]
+#[derive(Clone, Copy, Default)]
 pub struct PathPointCodes {
     pub x: f32,
     pub y: f32,
@@ -127,37 +127,16 @@ pub struct PathCodes {
 
 // ---- what an array holds after the points: zeros
 
-const BLANK_MOD: ModCodes = ModCodes {
-    code: 0,
-    bus: 0,
-    depth: 0.0,
-};
-
 pub fn blank_points() -> [PointCodes; MAX_POINTS]
     ensures { result ≡ replicate 64 blank_point }
 {
-    let blank = PointCodes {
-        x: 0.0,
-        y: 0.0,
-        curve: 0.0,
-        step: 0,
-        x_mod: BLANK_MOD,
-        y_mod: BLANK_MOD,
-    };
-    [blank; MAX_POINTS]
+    [PointCodes::default(); MAX_POINTS]
 }
 
 pub fn blank_path_points() -> [PathPointCodes; MAX_POINTS]
     ensures { result ≡ replicate 64 blank_path_point }
 {
-    let blank = PathPointCodes {
-        x: 0.0,
-        y: 0.0,
-        bend: 0.0,
-        x_mod: BLANK_MOD,
-        y_mod: BLANK_MOD,
-    };
-    [blank; MAX_POINTS]
+    [PathPointCodes::default(); MAX_POINTS]
 }
 
 // ---- a restart

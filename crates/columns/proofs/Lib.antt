@@ -1,3 +1,4 @@
 pub mod Interleave
 pub mod Places
 pub mod Serving
+pub mod Strides

@@ -10,12 +10,8 @@ pub fn scatter(from: &[f32], frames: usize, v: usize, stride: usize, to: &mut [f
     requires { Fits frames v stride from.now to.old }
     ensures { to.new ≡ strided stride v (take frames from.now) to.old }
 {
-    let mut k = 0usize;
-    let mut at = v;
-    while k < frames {
-        to[at] = from[k];
-        at = at + stride;
-        k = k + 1;
+    for k in 0..frames {
+        to[v + k * stride] = from[k];
     }
 }
 
@@ -24,9 +20,7 @@ pub fn spread(from: &[f32], frames: usize, stride: usize, to: &mut [f32])
     requires { FitAll frames stride from.now to.old }
     ensures { to.new ≡ interleaved nan frames (replicate stride (take frames from.now)) ++ drop (frames * stride) to.old }
 {
-    let mut v = 0usize;
-    while v < stride {
+    for v in 0..stride {
         scatter(from, frames, v, stride, to);
-        v = v + 1;
     }
 }

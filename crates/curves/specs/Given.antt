@@ -1,12 +1,9 @@
 -- The shape and the path that codes stand for: of `count` points the first 64. Of a code that question 1 refuses nothing is meant: it counts as absent, or as no. Assumes nothing.
-use Rattle.std.specs.Prelude.{ℕ, min, Bool, cond, List, eqb, get_or}
+use Rattle.std.specs.Prelude.{ℕ, min, Bool, cond, List, eqb, get_or, None, Option, Some}
 use Rattle.std.specs.Float.{nan}
 use Rattle.listlaws.specs.Tables.{tabulate, padded}
 use Rattle.points.specs.declared.PointMod.{PointMod}
-use Rattle.points.specs.declared.PointMod.TheVariants as PointMod
 use Rattle.shape.specs.declared.sorting.Point.{Point}
-use Rattle.shape.specs.declared.Loopback.{Loopback}
-use Rattle.shape.specs.declared.Loopback.TheVariants as Loopback
 use Rattle.shape.specs.declared.Shape.{Shape}
 use Rattle.shape.specs.Points.{blank}
 use Rattle.shape.specs.Shapes.{new_shape, with_loopback}
@@ -23,8 +20,8 @@ use Rattle.codes.specs.declared.PathCodes.{PathCodes}
 abbrev pub is_yes : ℕ → Bool
 is_yes code = eqb code 1
 
-unfoldable pub mod_of : ModCodes → PointMod
-mod_of c = cond (is_yes c.code) (PointMod.Bus c.bus c.depth) PointMod.None
+unfoldable pub mod_of : ModCodes → Option PointMod
+mod_of c = cond (is_yes c.code) (Some (record { bus = c.bus; depth = c.depth })) None
 
 -- what `get_or` gives past a list's end; no definition here looks there
 abbrev pub no_mod : ModCodes
@@ -42,8 +39,8 @@ point_of c = record { x = c.x; y = c.y; curve = c.curve; step = is_yes c.step; x
 unfoldable pub given_points : List PointCodes → ℕ → List Point
 given_points points n = padded 64 blank (tabulate (λ i. point_of (get_or points i no_point_codes)) n)
 
-unfoldable pub loopback_of : LoopbackCodes → Loopback
-loopback_of c = cond (is_yes c.code) (Loopback.At c.index) Loopback.None
+unfoldable pub loopback_of : LoopbackCodes → Option ℕ
+loopback_of c = cond (is_yes c.code) (Some c.index) None
 
 unfoldable pub given_shape : ShapeCodes → Shape
 given_shape c = with_loopback (new_shape (given_points c.points (min c.count 64)) c.count) (loopback_of c.loopback)

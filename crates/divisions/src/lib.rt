@@ -2,7 +2,7 @@
 // arms of `Division::beats` in lfo/mod.rs.
 #![tactic(auto)]
 
-ghost use Rattle.std.specs.Prelude.{◌≡◌, min};
+ghost use Rattle.std.specs.Prelude.{◌≡◌};
 ghost use Rattle.divisions.specs.Lengths.{note_length, in_beats};
 
 // Bars follow the host's time signature; beats are quarter notes, whatever the signature.
@@ -34,22 +34,11 @@ const NOTE_LENGTHS: [NoteLength; COUNT as usize] = [
     NoteLength::Beats(1.0 / 128.0),
 ];
 
-// Where division `index` stands in the table: what is past the last counts as the last.
-fn place(index: u8) -> usize
-    ensures { result ≡ min index 14 }
-{
-    if index < COUNT {
-        index as usize
-    } else {
-        (COUNT - 1) as usize
-    }
-}
-
-// How long division `index` lasts.
+// How long division `index` lasts; what is past the last counts as the last.
 pub fn note_length(index: u8) -> NoteLength
     ensures { result ≡ note_length index }
 {
-    NOTE_LENGTHS[place(index)]
+    NOTE_LENGTHS[index.min(COUNT - 1) as usize]
 }
 
 impl NoteLength {

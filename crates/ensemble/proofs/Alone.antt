@@ -1,4 +1,5 @@
 -- A block of one voice: what it asks of `render_parts` and of `scatter`, and what they give. Assumes nothing.
+use Rattle.std.specs.Prelude.{None}
 use mathlib.Core.Path.{◌≡◌, refl, sym, ap, ◌∙◌, subst}
 use mathlib.Core.Bool.{Bool}
 use mathlib.Core.List.{List, ◌++◌}
@@ -12,7 +13,6 @@ use Rattle.position.specs.Rest.{finished_of}
 use Rattle.voice.specs.declared.generator.Kept.{Kept}
 use Rattle.voice.specs.Curve.{void_kept, KeptFor}
 use Rattle.voice.specs.Frame.{Frame}
-use Rattle.bank.specs.declared.parts.Pending.TheVariants.{None}
 use Rattle.bank.specs.declared.stretch.Rendered.{Rendered}
 use Rattle.bank.specs.Render.{Stretch}
 use Rattle.bank.specs.Parts.{parts_outs, PlaysParts}

@@ -1,5 +1,5 @@
 -- A block of an ensemble: each voice plays it by itself, as crate bank's definitions say, into its own column of both buffers. Assumes nothing.
-use Rattle.std.specs.Prelude.{ℕ, suc, ◌+◌, ◌*◌, ◌^◌, ◌≤◌, ◌<◌, ◌≡◌, false, List, ◌∷◌, ◌++◌, map, length, get_or, take, drop, Float}
+use Rattle.std.specs.Prelude.{ℕ, suc, ◌+◌, ◌*◌, ◌^◌, ◌≤◌, ◌<◌, ◌≡◌, false, List, ◌∷◌, ◌++◌, map, length, get_or, take, drop, Float, None}
 use Rattle.std.specs.Float.{nan}
 use Rattle.columns.specs.Columns.{strided, interleaved}
 use Rattle.position.specs.Rest.{finished_of}
@@ -8,7 +8,6 @@ use Rattle.clock.specs.Block.{free_count}
 use Rattle.voice.specs.Curve.{Curve, curve_by, Searchable}
 use Rattle.voice.specs.Frame.{Frame}
 use Rattle.voice.specs.Voice.{new_voice}
-use Rattle.bank.specs.declared.parts.Pending.TheVariants.{None}
 use Rattle.bank.specs.Parts.{parts_voice, parts_outs, parts_count}
 use Rattle.ensemble.specs.declared.BlockPage.{BlockPage}
 use Rattle.ensemble.specs.declared.Member.{Member}

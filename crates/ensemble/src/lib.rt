@@ -8,12 +8,10 @@ mod page;
 mod playing;
 mod single;
 
-use bank::Pending;
 use clock::Block;
 pub use page::block_page;
 use path_segments::MAX_TIMES;
 pub use playing::{play_members, turn, turns};
-use position::LoopPoint;
 use settings::Settings;
 pub use single::played;
 use slot::Lists;
@@ -28,7 +26,7 @@ pub struct BlockPage {
     pub n: usize,
     pub times: [f32; MAX_TIMES],
     pub closed: bool,
-    pub loopback: LoopPoint,
+    pub loopback: Option<f64>,
     pub frames: usize,
     pub voices: usize,
 }
@@ -37,6 +35,6 @@ pub struct BlockPage {
 #[derive(Clone, Copy)]
 pub struct Member {
     pub voice: Voice,
-    pub pending: Pending,
+    pub pending: Option<usize>,
     pub finished: bool,
 }

@@ -12,22 +12,17 @@ pub fn block_page(page: Page, block: Block, frames: usize, voices: usize) -> Blo
     requires { LoopbackIn page.shape.loopback 64 }
     ensures { result ≡ block_page page block frames voices }
 {
-    let settings = page.settings;
-    let kind = settings.kind;
+    let kind = page.settings.kind;
     let lists = page.lists;
     let times = page.path.times;
-    let shape = page.shape;
-    let at = shape.loopback;
-    let loopback = slot::loop_point(kind, at, &lists.xs);
-    let n = slot::point_count(kind, shape.len, page.path.len);
     BlockPage {
-        settings,
+        settings: page.settings,
         block,
         lists,
-        n,
+        n: slot::point_count(kind, page.shape.len, page.path.len),
         times,
         closed: page.path.closed,
-        loopback,
+        loopback: slot::loop_point(kind, page.shape.loopback, &lists.xs),
         frames,
         voices,
     }

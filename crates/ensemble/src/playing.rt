@@ -18,16 +18,14 @@ pub fn turns(voices: &mut [Member], count: usize, p: BlockPage, x: &mut [f32], y
     requires { (count ≡ p.voices) × AllReady p voices.old x.old y.old }
     ensures { PlaysAll p voices.old x.old y.old voices.new x.new y.new }
 {
-    let mut v = 0usize;
-    while v < count {
+    for v in 0..count {
         turn(voices, v, p, x, y);
-        v = v + 1;
     }
 }
 
 // The voices by value: their list is lent to `turns`, and comes back.
 pub fn play_members(
-    list: [Member; 16],
+    mut list: [Member; 16],
     count: usize,
     p: BlockPage,
     x: &mut [f32],
@@ -36,7 +34,6 @@ pub fn play_members(
     requires { (count ≡ p.voices) × AllReady p list x.old y.old }
     ensures { PlaysAll p list x.old y.old result x.new y.new }
 {
-    let mut voices = list;
-    turns(&mut voices, count, p, x, y);
-    voices
+    turns(&mut list, count, p, x, y);
+    list
 }

@@ -2,8 +2,7 @@
 ghost use Rattle.ensemble.specs.Ensemble.{Ready, Plays};
 
 use super::{BlockPage, Member};
-use bank::Pending;
-use voice::Kept;
+use voice::{CurveView, Kept};
 
 // The most frames of a block.
 const MAX_FRAMES: usize = 4096;
@@ -14,44 +13,42 @@ pub fn played(p: BlockPage, m: Member, v: usize, x: &mut [f32], y: &mut [f32]) -
     requires { Ready p m v x.old y.old }
     ensures { Plays p m v x.old y.old result x.new y.new }
 {
-    let settings = p.settings;
-    let kind = settings.kind;
-    let mode = settings.mode;
-    let direction = settings.direction;
-    let block = p.block;
     let lists = p.lists;
     let times = p.times;
-    let loopback = p.loopback;
-    let voice = m.voice;
-    let at = m.pending;
-    let kept = Kept::void();
+    let curve = CurveView {
+        xs: &lists.xs,
+        ys: &lists.ys,
+        es: &lists.es,
+        steps: &lists.steps,
+        n: p.n,
+        times: &times,
+        closed: p.closed,
+        from: p.loopback,
+    };
     let mut xs = [0.0f32; MAX_FRAMES];
     let mut ys = [0.0f32; MAX_FRAMES];
     let r = bank::render_parts(
-        settings,
-        block,
-        &lists.xs,
-        &lists.ys,
-        &lists.es,
-        &lists.steps,
-        p.n,
-        &times,
-        p.closed,
-        loopback,
-        voice,
-        kept,
-        at,
+        p.settings,
+        p.block,
+        curve,
+        m.voice,
+        Kept::void(),
+        m.pending,
         p.frames,
         &mut xs,
         &mut ys,
     );
     columns::scatter(&xs, p.frames, v, p.voices, x);
     columns::scatter(&ys, p.frames, v, p.voices, y);
-    let after = r.voice;
-    let finished = position::finished(kind, mode, direction, loopback, r.count);
     Member {
-        voice: after,
-        pending: Pending::None,
-        finished,
+        voice: r.voice,
+        pending: None,
+        finished: position::finished(
+            p.settings.kind,
+            p.settings.mode,
+            p.settings.direction,
+            p.loopback,
+            r.count,
+        ),
     }
 }

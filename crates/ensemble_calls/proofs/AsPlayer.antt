@@ -1,4 +1,5 @@
 -- A voice plays what a player plays. Assumes nothing.
+use Rattle.std.specs.Prelude.{None, Option, Some}
 use Prim.Native.Nat.{ℕ, ◌<◌}
 use mathlib.Core.Path.{◌≡◌, refl, sym, ap, ap₂, ◌∙◌}
 use mathlib.Core.Bool.{Bool, true, false, cond, beq}
@@ -10,12 +11,9 @@ use borrow.Author.Tests.{eqb-true}
 use Rattle.listlaws.specs.Tables.{tabulate}
 use Rattle.listlaws.proofs.Tabulation.{length_tabulate, get_d_tabulate}
 use Rattle.codes.specs.declared.SettingsCodes.{SettingsCodes}
-use Rattle.settings.specs.declared.record.SettingsCode.{SettingsCode}
-use Rattle.settings.specs.declared.record.SettingsCode.TheVariants as SettingsCode
 use Rattle.codes.specs.declared.TransportCodes.{TransportCodes}
 use Rattle.settings.specs.Codes.{settings_at}
 use Rattle.voice.specs.Voice.{new_voice}
-use Rattle.bank.specs.declared.parts.Pending.TheVariants.{None}
 use Rattle.curves.specs.Given.{is_yes}
 use Rattle.questions.specs.Questions.{first_no, settings_questions}
 use Rattle.questions.proofs.Facts.{passed}
@@ -34,6 +32,7 @@ use Rattle.ensemble_calls.specs.AsPlayer.{player_at, pending_at, restart_codes, 
 use Rattle.ensemble_calls.proofs.Blocks.{codes, same_heard, heard_is}
 use Rattle.ensemble_calls.proofs.Views.{length_step, refused_heard}
 use Rattle.ensemble_calls.proofs.Own.{refused_keeps, settings_own, shape_own, path_own, bus_own, trigger_own, phase_own, pending_codes, block_taken, block_own}
+use Rattle.settings.specs.declared.record.Settings.{Settings}
 
 -- ---- as it is made
 
@@ -53,12 +52,12 @@ made_voice : (c : SettingsCodes) (seed other : ℕ) → player.made c seed ≡ r
 unfolding player.made new_state
 made_voice c seed other = go (player.makes c) (settings_at c)
   where
-    made_by : ℕ → Bool → SettingsCode → State
+    made_by : ℕ → Bool → Option Settings → State
     made_by s b k = cond b (by_settings (player.no_player s) k (λ z. new_state z s)) (player.no_player s)
 
-    go : (b : Bool) (k : SettingsCode) → made_by seed b k ≡ record { lfo = (made_by other b k).lfo; voice = new_voice seed; played = (made_by other b k).played }
-    go true (SettingsCode.Known z) = refl
-    go true SettingsCode.Unknown = refl
+    go : (b : Bool) (k : Option Settings) → made_by seed b k ≡ record { lfo = (made_by other b k).lfo; voice = new_voice seed; played = (made_by other b k).played }
+    go true (Some z) = refl
+    go true None = refl
     go false k = refl
 
 pub made_as_player : MadeAsPlayer

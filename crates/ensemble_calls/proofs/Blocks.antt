@@ -1,4 +1,5 @@
 -- An accepted block of an ensemble: the transport that it gets, the ensemble that it leaves, and what is heard of a voice. Assumes nothing.
+use Rattle.std.specs.Prelude.{Some}
 use Prim.Native.Nat.{ℕ, ◌+◌, ◌*◌, ◌^◌, ◌≤◌, ◌<◌}
 use mathlib.Core.Path.{◌≡◌, refl, sym, ap, ◌∙◌}
 use mathlib.Core.Bool.{Bool, true, false}
@@ -13,7 +14,6 @@ use Rattle.listlaws.specs.Tables.{tabulate}
 use Rattle.listlaws.proofs.Tabulation.{length_tabulate, get_d_tabulate}
 use Rattle.settings.specs.declared.record.Transport.{Transport}
 use Rattle.codes.specs.declared.TransportCodes.{TransportCodes}
-use Rattle.settings.specs.declared.record.TransportCode.TheVariants as TransportCode
 use Rattle.settings.specs.Codes.{transport_at}
 use Rattle.settings.proofs.Read.{transport_of}
 use Rattle.voice.specs.Frame.{Frame}
@@ -85,10 +85,10 @@ pub same_heard : {a a' b b' : List Float} {d d' : Bool} → a ≡ a' → b ≡ b
 same_heard p q r = rw (p, q, r) refl
 
 module _ (e : EnsembleState) (c : TransportCodes) (n : ℕ) (x y : List Float) (h : accepts e (block c n x y) ≡ true) where
-  pub codes : (t : Transport) × (transport_at c ≡ TransportCode.Known t)
+  pub codes : (t : Transport) × (transport_at c ≡ Some t)
   codes = transport_of c (yes_so (taken e c n x y h).transport.known)
 
-  module _ (t : Transport) (R : transport_at c ≡ TransportCode.Known t) where
+  module _ (t : Transport) (R : transport_at c ≡ Some t) where
     pub block_runs : step e (block c n x y) ≡ played_ensemble e t n
     unfolding step accepted
     block_runs = rw (h, R) refl

@@ -1,4 +1,5 @@
 -- The hypotheses can be met: voice 1 of two voices and voice 1 of three, with other restarts asked of the others. Assumes nothing.
+use Rattle.std.specs.Prelude.{Some}
 use mathlib.Core.Path.{◌≡◌, refl}
 use mathlib.Core.Bool.{false}
 use mathlib.Core.List.{List, [], ◌∷◌}
@@ -9,10 +10,9 @@ use lib.Ieee.{Float, nan, of_bits, eq, lt, le}
 use Rattle.floatlaws.specs.Numbers.{f32_½, f32_1}
 use Rattle.listlaws.specs.Tables.{tabulate}
 use Rattle.settings.specs.Times.{rate_at, span_at, scale_at}
-use Rattle.settings.specs.Codes.{smooth_at, with_spans, with_switches, settings_at, transport_at, settings_known, transport_known}
+use Rattle.settings.specs.Codes.{smooth_at, settings_at, transport_at, settings_known, transport_known}
 use Rattle.questions.specs.Tests.{settings_finite, transport_finite, transport_in}
 use Rattle.questions.specs.Questions.{first_no, settings_questions, bus_questions, phase_questions}
-use Rattle.bank.specs.declared.parts.Pending.TheVariants.{At}
 use Rattle.calls.specs.State.{new_state, with_settings, with_bus}
 use Rattle.calls.specs.Calls as player
 use Rattle.restart.proofs.Example.{drawn, here, there}
@@ -45,21 +45,21 @@ calls₂ =
     ∷ settings drawn 0 ∷ trigger 0 1 ∷ block there 5 room room ∷ trigger 1 0 ∷ phase 2 there ∷ block there 2 room room ∷ []
 
 same_seen : seen (eqb 1) two calls₁ ≡ seen (eqb 1) three calls₂
-unfolding seen seen_of step accepted answer questions page_questions trigger_questions voice_phase_questions play_questions made player.made new_state count_for new_ensemble played_ensemble asked_ensemble greatest tabulate player.accepted with_settings with_bus first_no settings_questions bus_questions phase_questions settings_known settings_finite transport_known transport_finite transport_in settings_at with_switches with_spans rate_at span_at smooth_at transport_at scale_at lib.Ieee.neg le lt eq of_bits
+unfolding seen seen_of step accepted answer questions page_questions trigger_questions voice_phase_questions play_questions made player.made new_state count_for new_ensemble played_ensemble asked_ensemble greatest tabulate player.accepted with_settings with_bus first_no settings_questions bus_questions phase_questions settings_known settings_finite transport_known transport_finite transport_in settings_at rate_at span_at smooth_at transport_at scale_at lib.Ieee.neg le lt eq of_bits
 same_seen = refl
 
 -- of voice 0 the two lists ask for two restarts and for one
 other_seen : length (seen (eqb 0) two calls₁) ∷ length (seen (eqb 0) three calls₂) ∷ [] ≡ 8 ∷ 7 ∷ []
-unfolding seen seen_of step accepted answer questions page_questions trigger_questions voice_phase_questions play_questions made player.made new_state count_for new_ensemble played_ensemble asked_ensemble greatest tabulate player.accepted with_settings with_bus first_no settings_questions bus_questions phase_questions settings_known settings_finite transport_known transport_finite transport_in settings_at with_switches with_spans rate_at span_at smooth_at transport_at scale_at lib.Ieee.neg le lt eq of_bits
+unfolding seen seen_of step accepted answer questions page_questions trigger_questions voice_phase_questions play_questions made player.made new_state count_for new_ensemble played_ensemble asked_ensemble greatest tabulate player.accepted with_settings with_bus first_no settings_questions bus_questions phase_questions settings_known settings_finite transport_known transport_finite transport_in settings_at rate_at span_at smooth_at transport_at scale_at lib.Ieee.neg le lt eq of_bits
 other_seen = refl
 
 -- in each, two blocks are played with shared off
 two_blocks : length (plays false 1 two calls₁) ∷ length (plays false 1 three calls₂) ∷ [] ≡ 2 ∷ 2 ∷ []
-unfolding plays heard_in step accepted answer questions page_questions trigger_questions voice_phase_questions play_questions made player.made new_state count_for new_ensemble played_ensemble asked_ensemble greatest tabulate player.accepted with_settings with_bus first_no settings_questions bus_questions phase_questions settings_known settings_finite transport_known transport_finite transport_in settings_at with_switches with_spans rate_at span_at smooth_at transport_at scale_at lib.Ieee.neg le lt eq of_bits
+unfolding plays heard_in step accepted answer questions page_questions trigger_questions voice_phase_questions play_questions made player.made new_state count_for new_ensemble played_ensemble asked_ensemble greatest tabulate player.accepted with_settings with_bus first_no settings_questions bus_questions phase_questions settings_known settings_finite transport_known transport_finite transport_in settings_at rate_at span_at smooth_at transport_at scale_at lib.Ieee.neg le lt eq of_bits
 two_blocks = refl
 
 same_start : (two.lfo ≡ three.lfo) × (two.shared ≡ three.shared) × (record_at two 1 ≡ record_at three 1) × (length two.voices ≡ 2) × (length three.voices ≡ 3)
-unfolding step accepted answer questions page_questions trigger_questions voice_phase_questions play_questions made player.made new_state count_for new_ensemble played_ensemble asked_ensemble greatest tabulate player.accepted with_settings with_bus first_no settings_questions bus_questions phase_questions settings_known settings_finite transport_known transport_finite transport_in settings_at with_switches with_spans rate_at span_at smooth_at transport_at scale_at lib.Ieee.neg le lt eq of_bits
+unfolding step accepted answer questions page_questions trigger_questions voice_phase_questions play_questions made player.made new_state count_for new_ensemble played_ensemble asked_ensemble greatest tabulate player.accepted with_settings with_bus first_no settings_questions bus_questions phase_questions settings_known settings_finite transport_known transport_finite transport_in settings_at rate_at span_at smooth_at transport_at scale_at lib.Ieee.neg le lt eq of_bits
 same_start = (refl, refl, refl, refl, refl)
 
 pub same_blocks : plays false 1 two calls₁ ≡ plays false 1 three calls₂
@@ -71,6 +71,6 @@ same_blocks =
 abbrev twice : List Call
 twice = trigger 0 100 ∷ trigger 0 10 ∷ []
 
-pub both_wait : (record_at (after two twice) 0).pending ∷ (after two twice).server.pending ∷ [] ≡ At 10 ∷ At 100 ∷ []
-unfolding after step accepted answer questions page_questions trigger_questions voice_phase_questions play_questions made player.made new_state count_for new_ensemble played_ensemble asked_ensemble greatest tabulate player.accepted with_settings with_bus first_no settings_questions bus_questions phase_questions settings_known settings_finite transport_known transport_finite transport_in settings_at with_switches with_spans rate_at span_at smooth_at transport_at scale_at lib.Ieee.neg le lt eq of_bits
+pub both_wait : (record_at (after two twice) 0).pending ∷ (after two twice).server.pending ∷ [] ≡ Some 10 ∷ Some 100 ∷ []
+unfolding after step accepted answer questions page_questions trigger_questions voice_phase_questions play_questions made player.made new_state count_for new_ensemble played_ensemble asked_ensemble greatest tabulate player.accepted with_settings with_bus first_no settings_questions bus_questions phase_questions settings_known settings_finite transport_known transport_finite transport_in settings_at rate_at span_at smooth_at transport_at scale_at lib.Ieee.neg le lt eq of_bits
 both_wait = refl

@@ -1,12 +1,10 @@
 -- A voice for which another one plays stands still. Assumes nothing.
+use Rattle.std.specs.Prelude.{None, Option, Some}
 use Prim.Native.Nat.{ℕ, ◌<◌}
 use mathlib.Core.Path.{◌≡◌, refl, ap, ◌∙◌}
 use mathlib.Core.Bool.{Bool, true, false, cond}
 use lib.ListN.{length}
-use Rattle.settings.specs.declared.record.TransportCode.{TransportCode}
-use Rattle.settings.specs.declared.record.TransportCode.TheVariants as TransportCode
 use Rattle.settings.specs.Codes.{transport_at}
-use Rattle.bank.specs.declared.parts.Pending.TheVariants.{None}
 use Rattle.calls.specs.Calls.{by_transport}
 use Rattle.ensemble_calls.specs.Ensembles.{VoiceRecord, EnsembleState, no_record, record_at, with_pending, asked_ensemble}
 use Rattle.ensemble_calls.specs.Blocks.{played_record, played_ensemble}
@@ -14,13 +12,14 @@ use Rattle.ensemble_calls.specs.Calls.{Call, settings, shape, path, bus, trigger
 use Rattle.ensemble_calls.specs.Apart.{Idle}
 use Rattle.columns.proofs.Places.{get_or_map_in}
 use Rattle.ensemble_calls.proofs.Own.{asked_voice}
+use Rattle.settings.specs.declared.record.Transport.{Transport}
 
 module _ (e : EnsembleState) (v : ℕ) (one : v < length e.voices) (s : e.shared ≡ true) where
-  voice_played : (c : TransportCode) (n : ℕ) → (record_at (by_transport e c (λ t. played_ensemble e t n)) v).voice ≡ (record_at e v).voice
+  voice_played : (c : Option Transport) (n : ℕ) → (record_at (by_transport e c (λ t. played_ensemble e t n)) v).voice ≡ (record_at e v).voice
   unfolding played_ensemble
-  voice_played (TransportCode.Known t) n =
+  voice_played (Some t) n =
       ap (λ (r : VoiceRecord). r.voice) (get_or_map_in (λ (r : VoiceRecord). cond e.shared (with_pending r None) (played_record e t n r)) e.voices v no_record no_record one) ∙ rw s refl
-  voice_played TransportCode.Unknown n = refl
+  voice_played None n = refl
 
   voice_accepted : (c : Call) → (record_at (accepted e c) v).voice ≡ (record_at e v).voice
   unfolding accepted
@@ -41,10 +40,10 @@ module _ (e : EnsembleState) (v : ℕ) (one : v < length e.voices) (s : e.shared
       go false = refl
 
 module _ (e : EnsembleState) (s : e.shared ≡ false) where
-  server_played : (c : TransportCode) (n : ℕ) → (by_transport e c (λ t. played_ensemble e t n)).server.voice ≡ e.server.voice
+  server_played : (c : Option Transport) (n : ℕ) → (by_transport e c (λ t. played_ensemble e t n)).server.voice ≡ e.server.voice
   unfolding played_ensemble
-  server_played (TransportCode.Known t) n = rw s refl
-  server_played TransportCode.Unknown n = refl
+  server_played (Some t) n = rw s refl
+  server_played None n = refl
 
   server_accepted : (c : Call) → (accepted e c).server.voice ≡ e.server.voice
   unfolding accepted asked_ensemble

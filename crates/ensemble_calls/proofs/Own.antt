@@ -1,4 +1,5 @@
 -- One call of an ensemble, and the call that a voice's own player gets for it. Assumes nothing.
+use Rattle.std.specs.Prelude.{None, Option, Some}
 use Prim.Native.Nat.{ℕ, ◌+◌, ◌*◌, ◌^◌, ◌≤◌, ◌<◌}
 use mathlib.Core.Path.{◌≡◌, refl, sym, ap, ◌∙◌}
 use mathlib.Core.Bool.{Bool, true, false, cond}
@@ -9,10 +10,7 @@ use lib.Dec.{eqb, ltb}
 use lib.ListN.{length, get_or}
 use lib.Ieee.{Float}
 use borrow.Author.Tests.{eqb-true, eq-eqb, le-leb}
-use Rattle.settings.specs.declared.record.SettingsCode.{SettingsCode}
-use Rattle.settings.specs.declared.record.SettingsCode.TheVariants as SettingsCode
 use Rattle.settings.specs.declared.record.Transport.{Transport}
-use Rattle.settings.specs.declared.record.TransportCode.TheVariants as TransportCode
 use Rattle.codes.specs.declared.SettingsCodes.{SettingsCodes}
 use Rattle.codes.specs.declared.TransportCodes.{TransportCodes}
 use Rattle.codes.specs.declared.ShapeCodes.{ShapeCodes}
@@ -20,8 +18,6 @@ use Rattle.codes.specs.declared.PathCodes.{PathCodes}
 use Rattle.settings.specs.Codes.{settings_at, transport_at}
 use Rattle.clock.specs.Ready.{prepared_of}
 use Rattle.voice.specs.declared.Voice.{Voice}
-use Rattle.bank.specs.declared.parts.Pending.{Pending}
-use Rattle.bank.specs.declared.parts.Pending.TheVariants.{None, At}
 use Rattle.slot.specs.Slot.{Lfo}
 use Rattle.slot.specs.Slot.{clocked_lfo}
 use Rattle.curves.specs.Given.{is_yes}
@@ -40,6 +36,7 @@ use Rattle.ensemble_calls.specs.AsPlayer.{player_at, pending_at, restart_codes}
 use Rattle.columns.proofs.Places.{get_or_map_in}
 use Rattle.ensemble_calls.proofs.Blocks.{taken, codes, block_runs}
 use Rattle.ensemble_calls.proofs.Views.{asked_at}
+use Rattle.settings.specs.declared.record.Settings.{Settings}
 
 pub refused_keeps : (e : EnsembleState) (c : Call) → accepts e c ≡ false → step e c ≡ e
 unfolding step
@@ -59,10 +56,10 @@ module _ (l : Lfo) (a b : Voice) (k : ℕ) where
   abbrev q : State
   q = record { lfo = l; voice = a; played = k }
 
-  settings_edit : (c : SettingsCode) → record { lfo = (by_settings q c (with_settings q)).lfo; voice = b; played = k } ≡ by_settings p c (with_settings p)
+  settings_edit : (c : Option Settings) → record { lfo = (by_settings q c (with_settings q)).lfo; voice = b; played = k } ≡ by_settings p c (with_settings p)
   unfolding with_settings
-  settings_edit (SettingsCode.Known s) = refl
-  settings_edit SettingsCode.Unknown = refl
+  settings_edit (Some s) = refl
+  settings_edit None = refl
 
 -- voice v of an ensemble whose page alone is another
 paged : (e : EnsembleState) (l : Lfo) (shared : Bool) (v : ℕ) → shared ≡ e.shared → player_at (with_page e l shared) v ≡ record { lfo = l; voice = (player_at e v).voice; played = e.played }
@@ -117,7 +114,7 @@ module _ (e : EnsembleState) (v : ℕ) where
 pub asked_voice : (e : EnsembleState) (u at v : ℕ) → v < length e.voices → (record_at (asked_ensemble e u at) v).voice ≡ (record_at e v).voice
 asked_voice e u at v one = ap (λ (r : VoiceRecord). r.voice) (asked_at e u at v one (eqb v u) refl) ∙ go (eqb v u)
   where
-    go : (t : Bool) → (cond t (with_pending (record_at e v) (At at)) (record_at e v)).voice ≡ (record_at e v).voice
+    go : (t : Bool) → (cond t (with_pending (record_at e v) (Some at)) (record_at e v)).voice ≡ (record_at e v).voice
     go true = refl
     go false = refl
 
@@ -157,15 +154,15 @@ module _ (e : EnsembleState) (v : ℕ) (one : v < length e.voices) where
           (ap (λ (r : VoiceRecord). r.voice)
           (get_or_map_in (λ (r : VoiceRecord). cond false (with_pending r None) (played_record e t n r)) e.voices v no_record no_record one))
 
-pub pending_codes : (at : Pending) → pending_of (restart_codes at) ≡ at
+pub pending_codes : (at : Option ℕ) → pending_of (restart_codes at) ≡ at
 unfolding pending_of restart_codes
 pending_codes None = refl
-pending_codes (At k) = refl
+pending_codes (Some k) = refl
 
-pub codes_known : (at : Pending) → ltb (restart_codes at).code 2 ≡ true
+pub codes_known : (at : Option ℕ) → ltb (restart_codes at).code 2 ≡ true
 unfolding restart_codes
 codes_known None = refl
-codes_known (At k) = refl
+codes_known (Some k) = refl
 
 module _ (e : EnsembleState) (v : ℕ) (one : v < length e.voices) (c : TransportCodes) (n : ℕ) (x y : List Float) (h : accepts e (block c n x y) ≡ true) where
   abbrev pub own : player.Call
@@ -187,11 +184,11 @@ module _ (e : EnsembleState) (v : ℕ) (one : v < length e.voices) (c : Transpor
         le-leb (e.played + n) (2 ^ 40) k.within_life,
       ) refl
 
-  module _ (t : Transport) (R : transport_at c ≡ TransportCode.Known t) where
+  module _ (t : Transport) (R : transport_at c ≡ Some t) where
     pub own_runs : player.step (player_at e v) own ≡ played_state (player_at e v) t n (pending_at e v)
     own_runs =
         steps.block_runs (player_at e v) c n (restart_codes (pending_at e v)) x y t R block_taken
-        ∙ ap (λ (at : Pending). played_state (player_at e v) t n at) (pending_codes (pending_at e v))
+        ∙ ap (λ (at : Option ℕ). played_state (player_at e v) t n at) (pending_codes (pending_at e v))
 
   pub block_own : player_at (step e (block c n x y)) v ≡ player.step (player_at e v) own
   block_own =

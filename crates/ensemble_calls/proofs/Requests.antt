@@ -1,12 +1,11 @@
 -- The restart that waits for a voice is the last one asked of it, and for the serving voice the greatest one asked of any. Assumes nothing.
+use Rattle.std.specs.Prelude.{None, Option, Some}
 use Prim.Native.Nat.{ℕ, ◌<◌}
 use mathlib.Core.Path.{◌≡◌, refl, sym, ap, ◌∙◌}
 use mathlib.Core.Bool.{Bool, true, false, cond}
 use mathlib.Core.List.{List, [], ◌∷◌, ◌++◌}
 use lib.Dec.{eqb}
 use lib.ListN.{length}
-use Rattle.bank.specs.declared.parts.Pending.{Pending}
-use Rattle.bank.specs.declared.parts.Pending.TheVariants.{None, At}
 use Rattle.ensemble_calls.specs.Ensembles.{VoiceRecord, EnsembleState, no_record, record_at, with_pending, greatest, asked_ensemble}
 use Rattle.ensemble_calls.specs.Blocks.{played_record, played_ensemble}
 use Rattle.ensemble_calls.specs.Calls.{Call, settings, shape, path, bus, trigger, phase, block, accepts, accepted, step, after}
@@ -32,7 +31,7 @@ module _ (v : ℕ) (e : EnsembleState) (l : List ℕ) (one : v < length e.voices
   voice_waits (bus k z) a = h
   voice_waits (trigger u at) a = ap (λ (r : VoiceRecord). r.pending) (asked_at e u at v one (eqb v u) refl) ∙ go (eqb v u)
     where
-      go : (t : Bool) → (cond t (with_pending (record_at e v) (At at)) (record_at e v)).pending ≡ last_of (asked l (cond t (restart at ∷ []) []))
+      go : (t : Bool) → (cond t (with_pending (record_at e v) (Some at)) (record_at e v)).pending ≡ last_of (asked l (cond t (restart at ∷ []) []))
       go true = refl
       go false = h
   voice_waits (phase u t) a = h
@@ -55,7 +54,7 @@ module _ (e : EnsembleState) (l : List ℕ) (any : Unit {0}) (h : e.server.pendi
   server_waits (shape c) a = h
   server_waits (path c) a = h
   server_waits (bus k z) a = h
-  server_waits (trigger u at) a = ap (λ (p : Pending). greatest p at) h ∙ greatest_more l at
+  server_waits (trigger u at) a = ap (λ (p : Option ℕ). greatest p at) h ∙ greatest_more l at
   server_waits (phase u t) a = h
   server_waits (block c n x y) a = rw (codes e c n x y a).1 (none_either e.shared _ _ refl refl)
 
@@ -69,7 +68,7 @@ asked_append l (restart at ∷ s) r = asked_append (at ∷ l) s r
 asked_append l (played t n ∷ s) r = asked_append [] s r
 
 -- what waits, of those asked, in every ensemble of which Has is true
-module _ (waits : EnsembleState → Pending) (of : List ℕ → Pending) (own : ℕ → Bool) (Has : EnsembleState → Type 0) (stays : (e : EnsembleState) (c : Call) → Has e → Has (step e c))
+module _ (waits : EnsembleState → Option ℕ) (of : List ℕ → Option ℕ) (own : ℕ → Bool) (Has : EnsembleState → Type 0) (stays : (e : EnsembleState) (c : Call) → Has e → Has (step e c))
     (call : (e : EnsembleState) (l : List ℕ) → Has e → waits e ≡ of l → (c : Call) → accepts e c ≡ true → waits (accepted e c) ≡ of (asked l (seen_of own c))) where
   call_waits : (e : EnsembleState) (l : List ℕ) → Has e → waits e ≡ of l → (c : Call) → waits (step e c) ≡ of (asked l (cond (accepts e c) (seen_of own c) []))
   unfolding step

@@ -1,4 +1,5 @@
 -- What a voice plays is a function of what it sees: the page, its record, and the calls as `seen` has them. Assumes nothing.
+use Rattle.std.specs.Prelude.{None, Option, Some}
 use Prim.Native.Nat.{ℕ, ◌<◌}
 use mathlib.Core.Path.{◌≡◌, refl, sym, ap, ap₂, ◌∙◌}
 use mathlib.Core.Bool.{Bool, true, false, cond, beq}
@@ -8,15 +9,10 @@ use lib.ListN.{length, get_or, set, length-set, length-map}
 use lib.Seq.{get_or-set_same, get_or-set_other}
 use lib.Ieee.{Float}
 use borrow.Author.Tests.{eqb-true, eqb-false}
-use Rattle.settings.specs.declared.record.SettingsCode.{SettingsCode}
-use Rattle.settings.specs.declared.record.SettingsCode.TheVariants as SettingsCode
 use Rattle.settings.specs.declared.record.Transport.{Transport}
 use Rattle.codes.specs.declared.TransportCodes.{TransportCodes}
-use Rattle.settings.specs.declared.record.TransportCode.{TransportCode}
-use Rattle.settings.specs.declared.record.TransportCode.TheVariants as TransportCode
 use Rattle.settings.specs.Codes.{settings_at, transport_at}
 use Rattle.clock.specs.Ready.{prepared_of}
-use Rattle.bank.specs.declared.parts.Pending.TheVariants.{None, At}
 use Rattle.slot.specs.Slot.{Lfo}
 use Rattle.slot.specs.Slot.{clocked_lfo}
 use Rattle.curves.specs.Given.{is_yes}
@@ -30,6 +26,7 @@ use Rattle.ensemble_calls.specs.Calls.{Call, settings, shape, path, bus, trigger
 use Rattle.ensemble_calls.specs.Heard.{Heard, heard_of, heard_in, plays, Seen, edit, restart, played, seen_of, seen}
 use Rattle.columns.proofs.Places.{get_or_map_in}
 use Rattle.ensemble_calls.proofs.Blocks.{codes, block_runs, heard_is}
+use Rattle.settings.specs.declared.record.Settings.{Settings}
 
 -- ---- what is seen of an ensemble, and what is made of it
 
@@ -73,7 +70,7 @@ module _ (b : Bool) where
   next w (edit (trigger u at)) = w
   next w (edit (phase u t)) = w
   next w (edit (block t n x y)) = w
-  next w (restart at) = record { lfo = w.lfo; shared = w.shared; own = with_pending w.own (cond b (greatest w.own.pending at) (At at)) }
+  next w (restart at) = record { lfo = w.lfo; shared = w.shared; own = with_pending w.own (cond b (greatest w.own.pending at) (Some at)) }
   next w (played c n) = by_transport w (transport_at c) λ t. ran w n t
 
   sounds : View → Seen → List Heard
@@ -117,19 +114,19 @@ beq_so true false h = sym h
 beq_so false true h = h
 beq_so false false h = refl
 
-settings_page : (p q : State) (c : SettingsCode) → p.lfo ≡ q.lfo → (by_settings p c (with_settings p)).lfo ≡ (by_settings q c (with_settings q)).lfo
+settings_page : (p q : State) (c : Option Settings) → p.lfo ≡ q.lfo → (by_settings p c (with_settings p)).lfo ≡ (by_settings q c (with_settings q)).lfo
 unfolding with_settings
-settings_page p q (SettingsCode.Known s) e = rw e refl
-settings_page p q SettingsCode.Unknown e = e
+settings_page p q (Some s) e = rw e refl
+settings_page p q None e = e
 
 -- a request changes one record, and that of the serving voice
 pub asked_at : (e : EnsembleState) (u at v : ℕ) → v < length e.voices → (t : Bool) → eqb v u ≡ t
-    → record_at (asked_ensemble e u at) v ≡ cond t (with_pending (record_at e v) (At at)) (record_at e v)
+    → record_at (asked_ensemble e u at) v ≡ cond t (with_pending (record_at e v) (Some at)) (record_at e v)
 unfolding asked_ensemble
 asked_at e u at v one true z =
-    ap (λ (k : ℕ). get_or (set e.voices k (with_pending (record_at e k) (At at))) v no_record) (sym (eqb-true v u z))
-    ∙ get_or-set_same e.voices v (with_pending (record_at e v) (At at)) no_record one
-asked_at e u at v one false z = get_or-set_other e.voices u v (with_pending (record_at e u) (At at)) no_record (eqb-false v u z)
+    ap (λ (k : ℕ). get_or (set e.voices k (with_pending (record_at e k) (Some at))) v no_record) (sym (eqb-true v u z))
+    ∙ get_or-set_same e.voices v (with_pending (record_at e v) (Some at)) no_record one
+asked_at e u at v one false z = get_or-set_other e.voices u v (with_pending (record_at e u) (Some at)) no_record (eqb-false v u z)
 
 asked_own : (b : Bool) (v : ℕ) (e : EnsembleState) (u at : ℕ) → v < length e.voices → (t : Bool) → eqb v u ≡ t
     → view_of b v (asked_ensemble e u at) ≡ next_all b (view_of b v e) (cond (cond b true t) (restart at ∷ []) [])
@@ -180,7 +177,7 @@ module _ (b : Bool) (v : ℕ) (e : EnsembleState) (one : v < length e.voices) wh
         let r = codes e c n x y h in
         rw (h, r.1) (go (beq e.shared b) refl r.0 r.1)
       where
-        go : (s : Bool) → beq e.shared b ≡ s → (t : Transport) → transport_at c ≡ TransportCode.Known t
+        go : (s : Bool) → beq e.shared b ≡ s → (t : Transport) → transport_at c ≡ Some t
             → cond s (heard_of v e c n x y ∷ []) [] ≡ cond s (heard_by e.lfo (cond b e.server (record_at e v)) n t ∷ []) [] ++ []
         go true z t R = ap (λ (k : Heard). k ∷ []) (heard_is e c n x y h t R v one ∙ heard_by_lem t n (beq_so e.shared b z))
         go false z t R = refl
@@ -243,10 +240,10 @@ module _ (b : Bool) (v : ℕ) (e : EnsembleState) (one : v < length e.voices) wh
 
 -- ---- no call changes the number of voices
 
-length_played : (e : EnsembleState) (c : TransportCode) (n : ℕ) → length (by_transport e c (λ t. played_ensemble e t n)).voices ≡ length e.voices
+length_played : (e : EnsembleState) (c : Option Transport) (n : ℕ) → length (by_transport e c (λ t. played_ensemble e t n)).voices ≡ length e.voices
 unfolding played_ensemble
-length_played e (TransportCode.Known t) n = length-map e.voices (λ (r : VoiceRecord). cond e.shared (with_pending r None) (played_record e t n r))
-length_played e TransportCode.Unknown n = refl
+length_played e (Some t) n = length-map e.voices (λ (r : VoiceRecord). cond e.shared (with_pending r None) (played_record e t n r))
+length_played e None n = refl
 
 length_accepted : (e : EnsembleState) (c : Call) → length (accepted e c).voices ≡ length e.voices
 unfolding accepted asked_ensemble
@@ -254,7 +251,7 @@ length_accepted e (settings c shared) = refl
 length_accepted e (shape c) = refl
 length_accepted e (path c) = refl
 length_accepted e (bus k z) = refl
-length_accepted e (trigger u at) = length-set e.voices u (with_pending (record_at e u) (At at))
+length_accepted e (trigger u at) = length-set e.voices u (with_pending (record_at e u) (Some at))
 length_accepted e (phase u t) = refl
 length_accepted e (block c n x y) = length_played e (transport_at c) n
 

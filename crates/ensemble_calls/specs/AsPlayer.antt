@@ -1,9 +1,7 @@
 -- A voice plays what a player plays that gets the same edits and blocks, with the restarts asked of the voice. Proved in proofs/AsPlayer.antt. Assumes nothing.
-use Rattle.std.specs.Prelude.{ℕ, ◌<◌, ◌≡◌, true, false, cond, List, [], ◌∷◌, ◌++◌, length, take}
+use Rattle.std.specs.Prelude.{ℕ, ◌<◌, ◌≡◌, true, false, cond, List, [], ◌∷◌, ◌++◌, length, take, None, Option, Some}
 use Rattle.codes.specs.declared.SettingsCodes.{SettingsCodes}
 use Rattle.settings.specs.Codes.{transport_at}
-use Rattle.bank.specs.declared.parts.Pending.{Pending}
-use Rattle.bank.specs.declared.parts.Pending.TheVariants.{None, At}
 use Rattle.curves.specs.Given.{is_yes}
 use Rattle.codes.specs.declared.RestartCodes.{RestartCodes}
 use Rattle.calls.specs.State.{State}
@@ -21,15 +19,15 @@ abbrev pub player_at : EnsembleState → ℕ → State
 player_at e v = player_of e (playing e (record_at e v))
 
 -- and the restart that waits for its next block
-abbrev pub pending_at : EnsembleState → ℕ → Pending
+abbrev pub pending_at : EnsembleState → ℕ → Option ℕ
 pending_at e v = (playing e (record_at e v)).pending
 
 -- ---- the calls that a player of its own gets
 
 -- a restart as a player's block carries it
-unfoldable pub restart_codes : Pending → RestartCodes
+unfoldable pub restart_codes : Option ℕ → RestartCodes
 restart_codes None = record { code = 0; frame = 0 }
-restart_codes (At k) = record { code = 1; frame = k }
+restart_codes (Some k) = record { code = 1; frame = k }
 
 -- of an accepted call: an edit, without shared; a block, with the restart that waits
 unfoldable pub own_call : ℕ → EnsembleState → Call → List player.Call

@@ -1,11 +1,10 @@
 -- A block of an ensemble, as `process_scalar` of lfo/bank.rs plays it: each voice plays it as a player with the common page and its own record would, and with shared on one voice plays
 -- it for all. Assumes nothing.
-use Rattle.std.specs.Prelude.{ℕ, ◌+◌, Bool, cond, List, map, Float}
+use Rattle.std.specs.Prelude.{ℕ, ◌+◌, Bool, cond, List, map, Float, None}
 use Rattle.std.specs.Float.{nan}
 use Rattle.settings.specs.declared.record.Transport.{Transport}
 use Rattle.clock.specs.Ready.{prepared_of}
 use Rattle.voice.specs.Frame.{Frame}
-use Rattle.bank.specs.declared.parts.Pending.TheVariants.{None}
 use Rattle.slot.specs.Slot.{clocked_lfo}
 use Rattle.columns.specs.Columns.{interleaved}
 use Rattle.calls.specs.State.{State}

@@ -1,17 +1,15 @@
 -- An ensemble as the rules see it: voices over one page, as `LfoBank` of lfo/bank.rs has them. As it is made, and as an edit and a request leave it. Assumes nothing.
-use Rattle.std.specs.Prelude.{ℕ, ◌+◌, ◌-◌, ◌*◌, ◌%◌, ◌^◌, max, Bool, List, get_or, set}
+use Rattle.std.specs.Prelude.{ℕ, ◌+◌, ◌-◌, ◌*◌, ◌%◌, ◌^◌, max, Bool, List, get_or, set, None, Option, Some}
 use Rattle.listlaws.specs.Tables.{tabulate}
 use Rattle.voice.specs.declared.Voice.{Voice}
 use Rattle.voice.specs.Voice.{new_voice}
-use Rattle.bank.specs.declared.parts.Pending.{Pending}
-use Rattle.bank.specs.declared.parts.Pending.TheVariants.{None, At}
 use Rattle.slot.specs.Slot.{Lfo}
 use Rattle.calls.specs.State.{State}
 
 -- a voice's record: its state, and the restart asked for in its next block, if any
 pub record VoiceRecord : Type 0 where
   pub voice : Voice
-  pub pending : Pending
+  pub pending : Option ℕ
 
 -- The common page: settings, curves, buses and clock, and whether one voice serves all. Then the voices' records, the serving voice's record, and the frames played since it was made.
 pub record EnsembleState : Type 0 where
@@ -61,13 +59,13 @@ with_page e lfo shared = record { lfo = lfo; shared = shared; voices = e.voices;
 
 -- ---- a restart asked for
 
-abbrev pub with_pending : VoiceRecord → Pending → VoiceRecord
+abbrev pub with_pending : VoiceRecord → Option ℕ → VoiceRecord
 with_pending r at = record { voice = r.voice; pending = at }
 
 -- "the greatest frame asked counts", also of those that a later one replaced
-unfoldable pub greatest : Pending → ℕ → Pending
-greatest None at = At at
-greatest (At k) at = At (max k at)
+unfoldable pub greatest : Option ℕ → ℕ → Option ℕ
+greatest None at = Some at
+greatest (Some k) at = Some (max k at)
 
 -- "A second frame asked for a voice replaces the first; with shared on, one voice serves all and the greatest frame asked counts": both are kept, whatever shared is
 unfoldable pub asked_ensemble : EnsembleState → ℕ → ℕ → EnsembleState
@@ -75,7 +73,7 @@ asked_ensemble e v at =
     record {
       lfo = e.lfo;
       shared = e.shared;
-      voices = set e.voices v (with_pending (record_at e v) (At at));
+      voices = set e.voices v (with_pending (record_at e v) (Some at));
       server = with_pending e.server (greatest e.server.pending at);
       played = e.played;
     }

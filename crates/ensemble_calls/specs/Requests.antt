@@ -1,7 +1,5 @@
 -- The restart that waits for a voice, and for the serving voice, in the words of document 02, W-205. Proved in proofs/Requests.antt. Assumes nothing.
-use Rattle.std.specs.Prelude.{ℕ, ◌<◌, max, ◌≡◌, true, List, [], ◌∷◌, eqb, length}
-use Rattle.bank.specs.declared.parts.Pending.{Pending}
-use Rattle.bank.specs.declared.parts.Pending.TheVariants.{None, At}
+use Rattle.std.specs.Prelude.{ℕ, ◌<◌, max, ◌≡◌, true, List, [], ◌∷◌, eqb, length, None, Option, Some}
 use Rattle.ensemble_calls.specs.Ensembles.{EnsembleState, record_at}
 use Rattle.ensemble_calls.specs.Calls.{Call, after}
 use Rattle.ensemble_calls.specs.Heard.{Seen, edit, restart, played, seen}
@@ -14,9 +12,9 @@ asked l (restart at ∷ s) = asked (at ∷ l) s
 asked l (played t frames ∷ s) = asked [] s
 
 -- "A second frame asked for a voice replaces the first"
-abbrev pub last_of : List ℕ → Pending
+abbrev pub last_of : List ℕ → Option ℕ
 last_of [] = None
-last_of (k ∷ l) = At k
+last_of (k ∷ l) = Some k
 
 abbrev pub LastAsked : Type 0
 LastAsked =
@@ -28,9 +26,9 @@ abbrev greatest_with : ℕ → List ℕ → ℕ
 greatest_with k [] = k
 greatest_with k (j ∷ l) = max (greatest_with j l) k
 
-abbrev pub greatest_of : List ℕ → Pending
+abbrev pub greatest_of : List ℕ → Option ℕ
 greatest_of [] = None
-greatest_of (k ∷ l) = At (greatest_with k l)
+greatest_of (k ∷ l) = Some (greatest_with k l)
 
 abbrev pub GreatestAsked : Type 0
 GreatestAsked =

@@ -1,5 +1,5 @@
 -- A block in which each voice plays for itself: what its calls ask, and what they give together. Assumes nothing.
-use Rattle.std.proofs.Common.{◌≡◌, ℕ, ◌+◌, ◌*◌, ◌^◌, ◌<◌, ◌≤◌, false, cond, List, ◌++◌, map, length, get_or, take, drop, sym, refl, ap, ◌∙◌, subst, arith, length-append, length-drop, length-take-le, get_or-take, take_at}
+use Rattle.std.proofs.Common.{◌≡◌, ℕ, ◌+◌, ◌*◌, ◌^◌, ◌<◌, ◌≤◌, false, cond, List, ◌++◌, map, length, get_or, take, drop, sym, refl, ap, ◌∙◌, subst, arith, length-append, length-drop, length-take-le, get_or-take, take_at, None}
 use lib.ListN.{get_or-append, length-map}
 use lib.Ieee.{Float, nan}
 use Rattle.settings.specs.declared.record.Settings.{Settings}
@@ -9,7 +9,6 @@ use Rattle.clock.specs.Ready.{prepared_of}
 use Rattle.reach.specs.Bounds.{AnchorIn, TransportIn}
 use Rattle.reach.proofs.Reach.{anchor_later, sample_count_in}
 use Rattle.voice.specs.Frame.{Frame}
-use Rattle.bank.specs.declared.parts.Pending.TheVariants.{None}
 use Rattle.slot.specs.Moved.{LoopbackIn}
 use Rattle.slot.specs.Slot.{Lfo, slot_curve, LfoIn}
 use Rattle.slot.proofs.Blocks as blocks

@@ -1,12 +1,11 @@
 -- What playing a block gives, of the equations of what it calls. Assumes nothing.
-use Rattle.std.proofs.Common.{◌≡◌, ℕ, ◌+◌, ◌-◌, ◌≤◌, Bool, true, false, List, ◌++◌, map, length, take, replicate, sym, refl, ap, ◌∙◌, subst, arith}
+use Rattle.std.proofs.Common.{◌≡◌, ℕ, ◌+◌, ◌-◌, ◌≤◌, Bool, true, false, List, ◌++◌, map, length, take, replicate, sym, refl, ap, ◌∙◌, subst, arith, None, Some}
 use mathlib.Core.Bool.{false≢true}
 use lib.ListN.{length-replicate, replicate-append-replicate}
 use lib.Ieee.{Float}
 use Rattle.listlaws.specs.Tables.{padded}
 use Rattle.codes.specs.declared.TransportCodes.{TransportCodes}
 use Rattle.settings.specs.declared.record.Transport.{Transport}
-use Rattle.settings.specs.declared.record.TransportCode.TheVariants as TransportCode
 use Rattle.settings.specs.Codes.{transport_at}
 use Rattle.questions.specs.Questions.{first_no}
 use Rattle.ensemble_calls.specs.Ensembles.{EnsembleState}
@@ -65,7 +64,7 @@ module _ (e : Ensemble) (valid : Valid e) (c : TransportCodes) (n : ℕ) (x y : 
     block_ready = record { valid = valid; accepted = accepts_it S call a put h }
 
     -- an answer of 0 goes with no unknown code, so that there is no such block
-    pub block_unknown : transport_at c ≡ TransportCode.Unknown → Plays e c n x y (refused_with a e.decks) x y
+    pub block_unknown : transport_at c ≡ None → Plays e c n x y (refused_with a e.decks) x y
     block_unknown unknown =
         let yes = block_ready.accepted in
         record {
@@ -78,7 +77,7 @@ module _ (e : Ensemble) (valid : Valid e) (c : TransportCodes) (n : ℕ) (x y : 
           valid = valid;
         }
 
-    module _ (t : Transport) (known : transport_at c ≡ TransportCode.Known t) where
+    module _ (t : Transport) (known : transport_at c ≡ Some t) where
       pub block_ready_at : ReadyAt e t n x y
       block_ready_at = record { codes = c; known = known; ready = block_ready }
 

@@ -1,15 +1,12 @@
 -- What making an ensemble gives, of the equations of what it calls. Assumes nothing.
-use Rattle.std.proofs.Common.{◌≡◌, ℕ, zero, suc, ◌<◌, ◌≤◌, Bool, true, false, cond, ◌&&◌, leb, List, [], ◌∷◌, ◌++◌, map, get_or, take, sym, refl, ap, ◌∙◌, subst, ap₂, inl, inr, le_of_suc-le-suc, eq-or-lt_of_le, arith, lit≤, take_all, leb-true}
+use Rattle.std.proofs.Common.{◌≡◌, ℕ, zero, suc, ◌<◌, ◌≤◌, Bool, true, false, cond, ◌&&◌, leb, List, [], ◌∷◌, ◌++◌, map, get_or, take, sym, refl, ap, ◌∙◌, subst, ap₂, inl, inr, le_of_suc-le-suc, eq-or-lt_of_le, arith, lit≤, take_all, leb-true, None, Option, Some}
 use mathlib.Core.List.{map-append}
 use lib.Seq.{take-append-le}
 use Rattle.listlaws.specs.Tables.{tabulate}
 use Rattle.listlaws.proofs.Tabulation.{length_tabulate, get_d_tabulate}
 use Rattle.codes.specs.declared.SettingsCodes.{SettingsCodes}
-use Rattle.settings.specs.declared.record.SettingsCode.{SettingsCode}
-use Rattle.settings.specs.declared.record.SettingsCode.TheVariants as SettingsCode
 use Rattle.settings.specs.Codes.{settings_at}
 use Rattle.reach.specs.Bounds.{AnchorIn}
-use Rattle.bank.specs.declared.parts.Pending.TheVariants.{None}
 use Rattle.slot.proofs.Slots.{new_voice_in}
 use Rattle.ensemble.specs.declared.Member.{Member}
 use Rattle.ensemble.specs.Ensemble.{no_member}
@@ -29,6 +26,7 @@ use Rattle.ensemble_calls.specs.Calls.{count_for, made}
 use Rattle.ensemble_player.specs.declared.Ensemble.{Ensemble}
 use Rattle.ensemble_player.specs.Ensembles.{record_of, new_member}
 use Rattle.ensemble_player.specs.Promises.{Makes}
+use Rattle.settings.specs.declared.record.Settings.{Settings}
 
 -- ---- the first of a table
 
@@ -61,9 +59,9 @@ none_played : (c : SettingsCodes) (seed : ℕ) → (calls.made c seed).played �
 unfolding calls.made new_state
 none_played c seed = go (calls.makes c) (settings_at c)
   where
-    go : (b : Bool) (k : SettingsCode) → (cond b (by_settings (calls.no_player seed) k (λ s. new_state s seed)) (calls.no_player seed)).played ≡ 0
-    go true (SettingsCode.Known s) = refl
-    go true SettingsCode.Unknown = refl
+    go : (b : Bool) (k : Option Settings) → (cond b (by_settings (calls.no_player seed) k (λ s. new_state s seed)) (calls.no_player seed)).played ≡ 0
+    go true (Some s) = refl
+    go true None = refl
     go false k = refl
 
 -- ---- the ensemble

@@ -1,9 +1,7 @@
 -- What reading the phase of a voice gives, of the equations of what it calls. Assumes nothing.
-use Rattle.std.proofs.Common.{◌≡◌, ℕ, ◌<◌, true, false, [], ◌∷◌, get_or, sym, refl, ap, ◌∙◌, ltb-true}
+use Rattle.std.proofs.Common.{◌≡◌, ℕ, ◌<◌, true, false, [], ◌∷◌, get_or, sym, refl, ap, ◌∙◌, ltb-true, None, Option, Some}
 use Rattle.codes.specs.declared.TransportCodes.{TransportCodes}
 use Rattle.settings.specs.declared.record.Transport.{Transport}
-use Rattle.settings.specs.declared.record.TransportCode.{TransportCode}
-use Rattle.settings.specs.declared.record.TransportCode.TheVariants as TransportCode
 use Rattle.settings.specs.Codes.{transport_at}
 use Rattle.ensemble.specs.declared.Member.{Member}
 use Rattle.questions.specs.Questions.{first_no, phase_questions}
@@ -49,9 +47,9 @@ module _ (e : Ensemble) (valid : Valid e) (v : ℕ) (c : TransportCodes) (a : �
     unfolding phase_answer voice_phase_answer calls.answer calls.questions
     by_player p same = rw (passes, sym put ∙ h) (go (transport_at c))
       where
-        go : (k : TransportCode) → answer_with 0 (by_transport [] k (λ t. phase_at p t ∷ [])) ≡ answer_with 0 (by_transport [] k (λ t. voice_phase S v t ∷ []))
-        go (TransportCode.Known t) = rw (same t)
-        go TransportCode.Unknown = refl
+        go : (k : Option Transport) → answer_with 0 (by_transport [] k (λ t. phase_at p t ∷ [])) ≡ answer_with 0 (by_transport [] k (λ t. voice_phase S v t ∷ []))
+        go (Some t) = rw (same t)
+        go None = refl
 
     pub shared_phase : e.shared ≡ true → phase_answer (playerState (server_of e)) c ≡ voice_phase_answer S v c
     shared_phase on = by_player (playerState (server_of e)) (λ t. unfold voice_phase playing in rw on refl)

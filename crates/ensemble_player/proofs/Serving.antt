@@ -1,18 +1,14 @@
 -- A block in which the serving voice plays for all: what its calls ask, and what they give together. Assumes nothing.
-use Rattle.std.proofs.Common.{◌≡◌, ℕ, ◌+◌, ◌*◌, ◌^◌, ◌<◌, ◌≤◌, Bool, true, false, cond, List, ◌++◌, map, length, get_or, take, drop, replicate, sym, refl, ap, ◌∙◌, subst, arith, length-append, length-drop, take_at, le-leb}
+use Rattle.std.proofs.Common.{◌≡◌, ℕ, ◌+◌, ◌*◌, ◌^◌, ◌<◌, ◌≤◌, Bool, true, false, cond, List, ◌++◌, map, length, get_or, take, drop, replicate, sym, refl, ap, ◌∙◌, subst, arith, length-append, length-drop, take_at, le-leb, None, Option, Some}
 use lib.ListN.{length-map}
 use lib.Ieee.{Float, nan}
 use Rattle.codes.specs.declared.TransportCodes.{TransportCodes}
 use Rattle.codes.specs.declared.RestartCodes.{RestartCodes}
 use Rattle.settings.specs.declared.record.Transport.{Transport}
-use Rattle.settings.specs.declared.record.TransportCode.{TransportCode}
-use Rattle.settings.specs.declared.record.TransportCode.TheVariants as TransportCode
 use Rattle.settings.specs.Codes.{transport_at}
 use Rattle.reach.specs.Bounds.{AnchorIn}
 use Rattle.reach.proofs.Reach.{anchor_later}
 use Rattle.voice.specs.Frame.{Frame}
-use Rattle.bank.specs.declared.parts.Pending.{Pending}
-use Rattle.bank.specs.declared.parts.Pending.TheVariants.{None}
 use Rattle.columns.specs.Columns.{interleaved, FitAll}
 use Rattle.ensemble.specs.declared.Member.{Member}
 use Rattle.ensemble.specs.Ensemble.{no_member}
@@ -39,7 +35,7 @@ use Rattle.ensemble_player.proofs.Blocks.{facts}
 
 -- ---- a player's block
 
-module _ (p : State) (c : TransportCodes) (n : ℕ) (at : Pending) (xs ys : List Float) (t : Transport) (known : transport_at c ≡ TransportCode.Known t)
+module _ (p : State) (c : TransportCodes) (n : ℕ) (at : Option ℕ) (xs ys : List Float) (t : Transport) (known : transport_at c ≡ Some t)
     (h : calls.accepts p (calls.block c n (restart_codes at) xs ys) ≡ true) where
   server_runs : calls.step p (calls.block c n (restart_codes at) xs ys) ≡ played_state p t n at
   unfolding calls.step calls.accepted
@@ -50,7 +46,7 @@ module _ (p : State) (c : TransportCodes) (n : ℕ) (at : Pending) (xs ys : List
   server_values f l =
       rw (h, known)
       (take_at (values p t n (pending_of (restart_codes at)) f) (drop n l) n (length_values p t n (pending_of (restart_codes at)) f)
-      ∙ ap (λ (k : Pending). values p t n k f) (pending_codes at))
+      ∙ ap (λ (k : Option ℕ). values p t n k f) (pending_codes at))
 
   server_finished : playerFinished p c n (restart_codes at) xs ys ≡ finished p t n at
   unfolding playerFinished
@@ -61,9 +57,9 @@ length_buffer : (p : State) (c : TransportCodes) (n : ℕ) (k : RestartCodes) (x
 unfolding calls.buffer calls.played
 length_buffer p c n k xs ys f l h = go (calls.accepts p (calls.block c n k xs ys)) (transport_at c)
   where
-    go : (b : Bool) (z : TransportCode) → length (cond b (by_transport l z (λ t. values p t n (pending_of k) f ++ drop n l)) l) ≡ length l
-    go true (TransportCode.Known t) = length-append (values p t n (pending_of k) f) (drop n l) ∙ omega (arith, length_values p t n (pending_of k) f, length-drop n l, h)
-    go true TransportCode.Unknown = refl
+    go : (b : Bool) (z : Option Transport) → length (cond b (by_transport l z (λ t. values p t n (pending_of k) f ++ drop n l)) l) ≡ length l
+    go true (Some t) = length-append (values p t n (pending_of k) f) (drop n l) ∙ omega (arith, length_values p t n (pending_of k) f, length-drop n l, h)
+    go true None = refl
     go false z = refl
 
 -- ---- the serving voice's, into buffers of its own
@@ -93,14 +89,14 @@ module _ (e : Ensemble) (c : TransportCodes) (n : ℕ) (x y : List Float) (h : R
 
   module _ (on : e.shared ≡ true) (codes : k ≡ restart_codes e.decks.asked) (members : List Member) (idle_are : members ≡ map (idle_member got.finished) e.decks.members) (x' y' : List Float)
       (gx : x' ≡ interleaved nan n (replicate e.count (take n xs)) ++ drop (n * e.count) x) (gy : y' ≡ interleaved nan n (replicate e.count (take n ys)) ++ drop (n * e.count) y)
-      (t : Transport) (known : transport_at c ≡ TransportCode.Known t) where
+      (t : Transport) (known : transport_at c ≡ Some t) where
     abbrev S : EnsembleState
     S = state_of e
 
     abbrev P : State
     P = playerState (server_of e)
 
-    abbrev at : Pending
+    abbrev at : Option ℕ
     at = e.decks.asked
 
     own : PlayerPlays (server_of e) c n (restart_codes at) xs₀ ys₀ got xs ys

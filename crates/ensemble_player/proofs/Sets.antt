@@ -1,9 +1,7 @@
 -- An edit of an ensemble is one of its serving voice's player. Assumes nothing.
-use Rattle.std.proofs.Common.{◌≡◌, ℕ, ◌<◌, ◌≤◌, Bool, true, false, cond, eqb, get_or, sym, refl, ap, ◌∙◌, subst, arith, le-ltb, lt-ltb, eq-eqb}
+use Rattle.std.proofs.Common.{◌≡◌, ℕ, ◌<◌, ◌≤◌, Bool, true, false, cond, eqb, get_or, sym, refl, ap, ◌∙◌, subst, arith, le-ltb, lt-ltb, eq-eqb, None, Option, Some}
 use lib.Ieee.{Float}
 use Rattle.codes.specs.declared.SettingsCodes.{SettingsCodes}
-use Rattle.settings.specs.declared.record.SettingsCode.{SettingsCode}
-use Rattle.settings.specs.declared.record.SettingsCode.TheVariants as SettingsCode
 use Rattle.settings.specs.Codes.{settings_at}
 use Rattle.reach.specs.Bounds.{AnchorIn}
 use Rattle.codes.specs.declared.ShapeCodes.{ShapeCodes}
@@ -25,6 +23,7 @@ use Rattle.ensemble_player.specs.declared.Ensemble.{Ensemble}
 use Rattle.ensemble_player.specs.Ensembles.{state_of, server_of, paged_ensemble, Valid}
 use Rattle.ensemble_player.specs.Promises.{Changes}
 use Rattle.ensemble_player.proofs.Outcomes.{refused, changed}
+use Rattle.settings.specs.declared.record.Settings.{Settings}
 
 -- ---- an edit moves no voice and plays no frame
 
@@ -39,9 +38,9 @@ settings_stays : (c : SettingsCodes) → Edits (calls.settings c)
 unfolding calls.accepted with_settings
 settings_stays c p = go (settings_at c)
   where
-    go : (k : SettingsCode) → Stays p (by_settings p k (with_settings p))
-    go (SettingsCode.Known s) = record { voice = refl; frames = refl }
-    go SettingsCode.Unknown = record { voice = refl; frames = refl }
+    go : (k : Option Settings) → Stays p (by_settings p k (with_settings p))
+    go (Some s) = record { voice = refl; frames = refl }
+    go None = record { voice = refl; frames = refl }
 
 shape_stays : (c : ShapeCodes) → Edits (calls.shape c)
 unfolding calls.accepted with_shape

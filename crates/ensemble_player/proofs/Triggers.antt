@@ -1,10 +1,8 @@
 -- What asking for a restart gives, of the equations of what it calls. Assumes nothing.
-use Rattle.std.proofs.Common.{◌≡◌, ℕ, ◌<◌, Bool, true, false, eqb, List, length, get_or, set, sym, refl, ap, ◌∙◌, subst, ap₂, arith, length-set, get_or-set_other, get_or-set_same, ltb-true, eqb-true}
+use Rattle.std.proofs.Common.{◌≡◌, ℕ, ◌<◌, Bool, true, false, eqb, List, length, get_or, set, sym, refl, ap, ◌∙◌, subst, ap₂, arith, length-set, get_or-set_other, get_or-set_same, ltb-true, eqb-true, Option, Some}
 use borrow.Author.Tests.{eqb-false}
 use Rattle.reach.specs.Bounds.{AnchorIn}
 use Rattle.voice.specs.declared.Voice.{Voice}
-use Rattle.bank.specs.declared.parts.Pending.{Pending}
-use Rattle.bank.specs.declared.parts.Pending.TheVariants.{At}
 use Rattle.ensemble.specs.declared.Member.{Member}
 use Rattle.ensemble.specs.Ensemble.{no_member}
 use Rattle.questions.specs.Questions.{first_no}
@@ -34,16 +32,16 @@ module _ (e : Ensemble) (valid : Valid e) (v at a : ℕ) (asked : a ≡ first_no
     in_array = omega (arith, below, valid.listed, valid.few)
 
     -- the ensemble that the code makes
-    abbrev pub asking : Member → Pending → Ensemble
+    abbrev pub asking : Member → Option ℕ → Ensemble
     asking m p = with_decks e (record { server = e.decks.server; asked = p; members = set e.decks.members v m })
 
-    module _ (d m : Member) (p : Pending) (member : m ≡ asked_member (get_or e.decks.members v d) at) (greater : p ≡ greatest e.decks.asked at) where
+    module _ (d m : Member) (p : Option ℕ) (member : m ≡ asked_member (get_or e.decks.members v d) at) (greater : p ≡ greatest e.decks.asked at) where
       asked_is : state_of (asking m p) ≡ accepted (state_of e) (trigger v at)
       unfolding accepted asked_ensemble
       asked_is =
-          ap₂ (λ (l : List VoiceRecord) (z : Pending). record { lfo = (state_of e).lfo; shared = e.shared; voices = l; server = record { voice = e.decks.server.voice; pending = z }; played = e.decks.server.played })
+          ap₂ (λ (l : List VoiceRecord) (z : Option ℕ). record { lfo = (state_of e).lfo; shared = e.shared; voices = l; server = record { voice = e.decks.server.voice; pending = z }; played = e.decks.server.played })
           (voices_set e.count v e.decks.members m below
-          ∙ ap (λ (r : VoiceRecord). set (state_of e).voices v r) (ap record_of member ∙ ap (λ (r : VoiceRecord). with_pending r (At at)) (sym (voice_at e valid v below d))))
+          ∙ ap (λ (r : VoiceRecord). set (state_of e).voices v r) (ap record_of member ∙ ap (λ (r : VoiceRecord). with_pending r (Some at)) (sym (voice_at e valid v below d))))
           greater
 
       same_anchor : (u : ℕ) → u < e.count → (t : Bool) → eqb u v ≡ t → (get_or (set e.decks.members v m) u no_member).voice ≡ (get_or e.decks.members u no_member).voice

@@ -1,9 +1,8 @@
 -- An ensemble: as the rules see it, as a call leaves it, and what holds of every one. Assumes nothing.
-use Rattle.std.specs.Prelude.{◌≡◌, ℕ, ◌<◌, ◌≤◌, Bool, false, map, length, take, slice_index_or}
+use Rattle.std.specs.Prelude.{◌≡◌, ℕ, ◌<◌, ◌≤◌, Bool, false, map, length, take, slice_index_or, None, Some}
 use Rattle.reach.specs.Bounds.{AnchorIn}
 use Rattle.voice.specs.declared.Voice.{Voice}
 use Rattle.voice.specs.Voice.{new_voice}
-use Rattle.bank.specs.declared.parts.Pending.TheVariants.{None, At}
 use Rattle.slot.specs.Page.{lfo_of}
 use Rattle.ensemble.specs.declared.Member.{Member}
 use Rattle.ensemble.specs.Ensemble.{no_member}
@@ -42,7 +41,7 @@ abbrev pub new_member : ℕ → Member
 new_member seed = record { voice = new_voice seed; pending = None; finished = false }
 
 abbrev pub asked_member : Member → ℕ → Member
-asked_member m at = record { voice = m.voice; pending = At at; finished = m.finished }
+asked_member m at = record { voice = m.voice; pending = Some at; finished = m.finished }
 
 -- a voice for which another has played
 abbrev pub idle_member : Bool → Member → Member

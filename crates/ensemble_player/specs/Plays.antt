@@ -1,9 +1,8 @@
 -- What playing a block promises, by the definitions of crate `ensemble_calls`. Assumes nothing.
-use Rattle.std.specs.Prelude.{◌≡◌, ℕ, ◌*◌, true, false, List, ◌++◌, map, take, drop, replicate, Float}
+use Rattle.std.specs.Prelude.{◌≡◌, ℕ, ◌*◌, true, false, List, ◌++◌, map, take, drop, replicate, Float, Some}
 use Rattle.listlaws.specs.Tables.{padded}
 use Rattle.codes.specs.declared.TransportCodes.{TransportCodes}
 use Rattle.settings.specs.declared.record.Transport.{Transport}
-use Rattle.settings.specs.declared.record.TransportCode.TheVariants as TransportCode
 use Rattle.settings.specs.Codes.{transport_at}
 use Rattle.ensemble_calls.specs.Blocks.{played_ensemble, voice_finished, ensemble_values}
 use Rattle.ensemble_calls.specs.Calls.{block, answer, accepts, step, buffer, finished_by}
@@ -37,7 +36,7 @@ pub record Ready (e : Ensemble) (c : TransportCodes) (frames : ℕ) (x y : List 
 -- at the transport that codes stand for
 pub record ReadyAt (e : Ensemble) (t : Transport) (frames : ℕ) (x y : List Float) : Type 0 where
   pub codes : TransportCodes
-  pub known : transport_at codes ≡ TransportCode.Known t
+  pub known : transport_at codes ≡ Some t
   pub ready : Ready e codes frames x y
 
 -- what it gives; of the segments kept only what `Valid` says

@@ -12,12 +12,10 @@ use player::Player;
 fn paged(e: Ensemble, server: Player, shared: bool) -> Ensemble
     ensures { result ≡ paged_ensemble e server shared }
 {
-    let page = server.page;
-    let deck = server.deck;
     let mut decks = e.decks;
-    decks.server = deck;
+    decks.server = server.deck;
     Ensemble {
-        page,
+        page: server.page,
         shared,
         count: e.count,
         decks,
@@ -43,9 +41,10 @@ pub fn set_settings(e: Ensemble, c: SettingsCodes, shared: u64) -> Changed
             ensemble: e,
         };
     }
-    let server = set.player;
-    let ensemble = paged(e, server, shared == 1);
-    Changed { answer, ensemble }
+    Changed {
+        answer,
+        ensemble: paged(e, set.player, shared == 1),
+    }
 }
 
 // Sets the shape: the first 64 of its points, and the loopback point.
@@ -54,11 +53,9 @@ pub fn set_shape(e: Ensemble, c: ShapeCodes) -> Changed
     ensures { Changes e (call.shape c) result }
 {
     let set = player::set_shape(server_of(e), c);
-    let server = set.player;
-    let ensemble = paged(e, server, e.shared);
     Changed {
         answer: set.answer,
-        ensemble,
+        ensemble: paged(e, set.player, e.shared),
     }
 }
 
@@ -68,11 +65,9 @@ pub fn set_path(e: Ensemble, c: PathCodes) -> Changed
     ensures { Changes e (call.path c) result }
 {
     let set = player::set_path(server_of(e), c);
-    let server = set.player;
-    let ensemble = paged(e, server, e.shared);
     Changed {
         answer: set.answer,
-        ensemble,
+        ensemble: paged(e, set.player, e.shared),
     }
 }
 
@@ -82,10 +77,8 @@ pub fn set_bus(e: Ensemble, bus: u64, value: f32) -> Changed
     ensures { Changes e (call.bus bus value) result }
 {
     let set = player::set_bus(server_of(e), bus, value);
-    let server = set.player;
-    let ensemble = paged(e, server, e.shared);
     Changed {
         answer: set.answer,
-        ensemble,
+        ensemble: paged(e, set.player, e.shared),
     }
 }

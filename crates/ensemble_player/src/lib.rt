@@ -14,7 +14,6 @@ mod requests;
 ghost use Rattle.std.specs.Prelude.{◌≡◌};
 ghost use Rattle.ensemble_player.specs.Ensembles.{server_of};
 
-use bank::Pending;
 pub use edits::{set_bus, set_path, set_settings, set_shape};
 use ensemble::Member;
 pub use making::make;
@@ -32,7 +31,7 @@ const MAX_VOICES: usize = 16;
 #[derive(Clone, Copy)]
 pub struct Decks {
     pub server: Deck,
-    pub asked: Pending,
+    pub asked: Option<usize>,
     pub members: [Member; MAX_VOICES],
 }
 
@@ -46,21 +45,21 @@ pub struct Ensemble {
 }
 
 // What making an ensemble gives. Where the answer is not 0 the ensemble is not to be used.
-#[derive(Drop)]
+#[derive(Clone, Copy)]
 pub struct Made {
     pub answer: u8,
     pub ensemble: Ensemble,
 }
 
 // What a call that sets something or asks for a restart gives.
-#[derive(Drop)]
+#[derive(Clone, Copy)]
 pub struct Changed {
     pub answer: u8,
     pub ensemble: Ensemble,
 }
 
 // What playing a block gives: the decks after it, and whether each voice has reached the end of a One-shot in it.
-#[derive(Drop)]
+#[derive(Clone, Copy)]
 pub struct Played {
     pub answer: u8,
     pub finished: [bool; MAX_VOICES],
@@ -71,8 +70,8 @@ pub struct Played {
 fn server_of(e: Ensemble) -> Player
     ensures { result ≡ server_of e }
 {
-    let page = e.page;
-    let decks = e.decks;
-    let deck = decks.server;
-    Player { page, deck }
+    Player {
+        page: e.page,
+        deck: e.decks.server,
+    }
 }

@@ -7,7 +7,6 @@ ghost use Rattle.ensemble_player.specs.Ensembles.{new_member};
 ghost use Rattle.ensemble_player.specs.Promises.{Makes};
 
 use super::{Decks, Ensemble, MAX_VOICES, Made};
-use bank::Pending;
 use codes::SettingsCodes;
 use ensemble::Member;
 use voice::Voice;
@@ -17,18 +16,16 @@ fn seed_of(seed: u64, index: u64) -> u64
     requires { index + 1 < 2 ^ 64 }
     ensures { result ≡ seed_of seed index }
 {
-    let step = random::wrapping_mul_u64(index + 1, 0x9E37_79B9_7F4A_7C15);
-    std::num::wrapping_add_u64(seed, step)
+    seed.wrapping_add((index + 1).wrapping_mul(0x9E37_79B9_7F4A_7C15))
 }
 
 // A voice just made.
 fn new_member(seed: u64) -> Member
     ensures { result ≡ new_member seed }
 {
-    let voice = Voice::new(seed);
     Member {
-        voice,
-        pending: Pending::None,
+        voice: Voice::new(seed),
+        pending: None,
         finished: false,
     }
 }
@@ -37,18 +34,15 @@ fn new_member(seed: u64) -> Member
 fn new_members(seed: u64) -> [Member; MAX_VOICES]
     ensures { result ≡ tabulate (λ v. new_member (seed_of seed v)) 16 }
 {
-    let blank = new_member(0);
-    let mut members = [blank; MAX_VOICES];
-    let mut v = 0;
-    while v < MAX_VOICES {
-        let member = new_member(seed_of(seed, v as u64));
-        members[v] = member;
-        v += 1;
+    let mut members = [new_member(0); MAX_VOICES];
+    for (v, m) in members.iter_mut().enumerate() {
+        *m = new_member(seed_of(seed, v as u64));
     }
     members
 }
 
 // The number of voices: where it is refused, two.
+#[tactic(auto, unfolding(ensemble_calls::specs::Calls::count_for))]
 fn count_for(count: u64) -> usize
     ensures { result ≡ count_for count }
 {
@@ -67,19 +61,16 @@ pub fn make(c: SettingsCodes, shared: u64, count: u64, seed: u64) -> Made
 {
     let answer = ensemble_questions::make_answer(c, shared, count);
     let made = player::make(c, seed_of(seed, 0xFFFF_FFFF_FFFF_FFFE));
-    let player = made.player;
-    let page = player.page;
-    let server = player.deck;
     let members = new_members(seed);
     Made {
         answer,
         ensemble: Ensemble {
-            page,
+            page: made.player.page,
             shared: shared == 1,
             count: count_for(count),
             decks: Decks {
-                server,
-                asked: Pending::None,
+                server: made.player.deck,
+                asked: None,
                 members,
             },
         },

@@ -6,17 +6,20 @@ ghost use Rattle.ensemble_player.specs.Readings.{voice_phase_answer};
 
 use super::{Ensemble, server_of};
 use codes::TransportCodes;
-use player::{PhaseResult, Player};
+use player::{Deck, PhaseResult, Player};
 use voice::Voice;
 
 // A voice as a player, on the page of all.
 fn voice_player(server: Player, voice: Voice) -> Player
     ensures { result ≡ voice_player server voice }
 {
-    let page = server.page;
-    let mut deck = server.deck;
-    deck.voice = voice;
-    Player { page, deck }
+    Player {
+        page: server.page,
+        deck: Deck {
+            voice,
+            ..server.deck
+        },
+    }
 }
 
 // Where voice v is in its cycle, 0 up to 1, at the next sample to play; with shared on, where the serving voice is. No ensemble changes.
@@ -32,10 +35,6 @@ pub fn phase(e: Ensemble, v: u64, t: TransportCodes) -> PhaseResult
     if e.shared {
         return player::phase(server, t);
     }
-    let k = v as usize;
-    let decks = e.decks;
-    let members = decks.members;
-    let member = members[k];
-    let voice = member.voice;
+    let voice = e.decks.members[v as usize].voice;
     player::phase(voice_player(server, voice), t)
 }

@@ -6,21 +6,16 @@ ghost use Rattle.ensemble_player.specs.Ensembles.{Valid, asked_member};
 ghost use Rattle.ensemble_player.specs.Promises.{Changes};
 
 use super::{Changed, Decks, Ensemble};
-use bank::Pending;
 use ensemble::Member;
 
 // The greater of the frames asked for.
-fn greater(asked: Pending, at: usize) -> Pending
+#[tactic(auto, unfolding(ensemble_calls::specs::Ensembles::greatest))]
+fn greater(asked: Option<usize>, at: usize) -> Option<usize>
     ensures { result ≡ greatest asked at }
 {
     match asked {
-        Pending::None => Pending::At(at),
-        Pending::At(k) => {
-            if k < at {
-                return Pending::At(at);
-            }
-            Pending::At(k)
-        }
+        None => Some(at),
+        Some(k) => Some(k.max(at)),
     }
 }
 
@@ -28,11 +23,9 @@ fn greater(asked: Pending, at: usize) -> Pending
 fn asked_member(m: Member, at: usize) -> Member
     ensures { result ≡ asked_member m at }
 {
-    let voice = m.voice;
     Member {
-        voice,
-        pending: Pending::At(at),
-        finished: m.finished,
+        pending: Some(at),
+        ..m
     }
 }
 
@@ -50,25 +43,15 @@ pub fn trigger(e: Ensemble, v: u64, at: u64) -> Changed
     }
     let k = v as usize;
     let frame = at as usize;
-    let decks = e.decks;
-    let server = decks.server;
-    let mut members = decks.members;
-    let member = asked_member(members[k], frame);
-    members[k] = member;
-    let before = decks.asked;
-    let asked = greater(before, frame);
-    let page = e.page;
+    let mut members = e.decks.members;
+    members[k] = asked_member(members[k], frame);
+    let decks = Decks {
+        server: e.decks.server,
+        asked: greater(e.decks.asked, frame),
+        members,
+    };
     Changed {
         answer,
-        ensemble: Ensemble {
-            page,
-            shared: e.shared,
-            count: e.count,
-            decks: Decks {
-                server,
-                asked,
-                members,
-            },
-        },
+        ensemble: Ensemble { decks, ..e },
     }
 }

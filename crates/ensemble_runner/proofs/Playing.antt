@@ -1,4 +1,5 @@
 -- A block, played and written. Assumes nothing.
+use Rattle.std.specs.Prelude.{None, Option, Some}
 use Prim.Native.Nat.{ℕ, suc, ◌+◌, ◌≤◌}
 use mathlib.Core.Path.{◌≡◌, refl, sym, ap, ◌∙◌}
 use mathlib.Core.Bool.{Bool, true, false, cond}
@@ -10,10 +11,8 @@ use lib.Seq.{take_at}
 use lib.Ieee.{Float}
 use Rattle.listlaws.specs.Tables.{padded}
 use Rattle.codes.specs.declared.TransportCodes.{TransportCodes}
-use Rattle.settings.specs.declared.record.TransportCode.{TransportCode}
-use Rattle.settings.specs.declared.record.TransportCode.TheVariants as TransportCode
 use Rattle.settings.specs.Codes.{transport_at}
-use Rattle.number.specs.declared.Writing.{Writing}
+use Rattle.std.specs.Prelude.{Option}
 use Rattle.fields.specs.Parser.{read}
 use Rattle.calls.specs.Calls.{by_transport}
 use Rattle.replies.specs.Replies.{listed, WritesAll}
@@ -32,13 +31,14 @@ use Rattle.ensemble_runner.specs.declared.Turn.{Turn}
 use Rattle.ensemble_runner.specs.Numbers.{block_numbers, numbers}
 use Rattle.ensemble_runner.specs.Promises.{how_many, given_of, following, Turns}
 use Rattle.ensemble_runner.proofs.Turning.{turned, same_turns}
+use Rattle.settings.specs.declared.record.Transport.{Transport}
 
 -- ---- one finished a voice
 
 module _ (e : EnsembleState) (t : TransportCodes) (frames : ℕ) (x y : List Float) where
-  by_transport_lem : (c : TransportCode) → length (by_transport (none_finished e) c λ t. map (voice_finished e t frames) e.voices) ≡ length e.voices
-  by_transport_lem (TransportCode.Known t) = length-map e.voices _
-  by_transport_lem TransportCode.Unknown = length-replicate _ _
+  by_transport_lem : (c : Option Transport) → length (by_transport (none_finished e) c λ t. map (voice_finished e t frames) e.voices) ≡ length e.voices
+  by_transport_lem (Some t) = length-map e.voices _
+  by_transport_lem None = length-replicate _ _
 
   by_accepted : (b : Bool)
       → length (cond b (by_transport (none_finished e) (transport_at t) λ t. map (voice_finished e t frames) e.voices) (none_finished e)) ≡ length e.voices
@@ -86,7 +86,7 @@ module _ {e : Ensemble} (valid : Valid e) {t : TransportCodes} {frames : ℕ} {x
   -- ---- a turn
 
   pub block_turned : {n : ℕ} {l : List ℕ} → n ≡ how_many r.answer e.count → l ≡ r.answer ∷ map flag_of r.finished
-      → (run o : List ℕ) (place next : ℕ) {v : Writing} {o' : List ℕ} → WritesAll o place (listed (take n l) x' y') v o'
+      → (run o : List ℕ) (place next : ℕ) {v : Option ℕ} {o' : List ℕ} → WritesAll o place (listed (take n l) x' y') v o'
       → {k : Turn} → (following k ≡ turn_of v place next true (state_of (with_decks e r.decks))) × (k.ensemble ≡ with_decks e r.decks)
       → Turns run (given_of e run (read (block t frames x y) next)) o place k o'
   unfolding given_by

@@ -8,10 +8,8 @@ use Rattle.codes.specs.declared.SettingsCodes.{SettingsCodes}
 use Rattle.codes.specs.declared.TransportCodes.{TransportCodes}
 use Rattle.codes.specs.declared.ShapeCodes.{ShapeCodes}
 use Rattle.codes.specs.declared.PathCodes.{PathCodes}
-use Rattle.fields.specs.declared.reader.Place.{Place}
+use Rattle.fields.specs.Parser.{read, after}
 use Rattle.fields.specs.Fields.{number, up_to, f32}
-use Rattle.fields.specs.Places.{Reads}
-use Rattle.fields.proofs.Places.{chain, last}
 use Rattle.runs.specs.Records.{settings, transport}
 use Rattle.runs.specs.Curves.{shape, path}
 use Rattle.outputs.specs.Numbers.{sevens}
@@ -19,45 +17,45 @@ use Rattle.outputs.specs.Output.{none}
 use Rattle.ensemble_calls.specs.Calls as Calls
 use Rattle.ensemble_runner.specs.Asked.{make, settings_call, shape_call, path_call, bus_call, phase_call, block_call, trigger_call, by_tag}
 
-module _ (run : List ℕ) {from a : Place} where
-  pub shape_call_lem : {c : ShapeCodes} → Reads (shape run) from c a → Reads (shape_call run) from (Calls.shape c) a
-  unfolding shape_call
-  shape_call_lem r = chain _ r last
+module _ (run : List ℕ) (at : ℕ) {a : ℕ} where
+  pub shape_call_lem : {c : ShapeCodes} → read c a ≡ shape run at → read (Calls.shape c) a ≡ shape_call run at
+  unfolding shape_call after
+  shape_call_lem r = rw (← r)
 
-  pub path_call_lem : {c : PathCodes} → Reads (path run) from c a → Reads (path_call run) from (Calls.path c) a
-  unfolding path_call
-  path_call_lem r = chain _ r last
+  pub path_call_lem : {c : PathCodes} → read c a ≡ path run at → read (Calls.path c) a ≡ path_call run at
+  unfolding path_call after
+  path_call_lem r = rw (← r)
 
-module _ (run : List ℕ) {from a b : Place} where
-  pub settings_call_lem : {c : SettingsCodes} {shared : ℕ} → Reads (settings run) from c a → Reads (number run) a shared b
-      → Reads (settings_call run) from (Calls.settings c shared) b
-  unfolding settings_call
-  settings_call_lem r s = chain _ r (chain _ s last)
+module _ (run : List ℕ) (at a : ℕ) {b : ℕ} where
+  pub settings_call_lem : {c : SettingsCodes} {shared : ℕ} → read c a ≡ settings run at → read shared b ≡ number run a
+      → read (Calls.settings c shared) b ≡ settings_call run at
+  unfolding settings_call after
+  settings_call_lem r s = rw (← r, ← s)
 
-  pub bus_call_lem : {k : ℕ} {x : Float} → Reads (number run) from k a → Reads (f32 run) a x b → Reads (bus_call run) from (Calls.bus k x) b
-  unfolding bus_call
-  bus_call_lem r s = chain _ r (chain _ s last)
+  pub bus_call_lem : {k : ℕ} {x : Float} → read k a ≡ number run at → read x b ≡ f32 run a → read (Calls.bus k x) b ≡ bus_call run at
+  unfolding bus_call after
+  bus_call_lem r s = rw (← r, ← s)
 
-  pub phase_call_lem : {v : ℕ} {t : TransportCodes} → Reads (number run) from v a → Reads (transport run) a t b → Reads (phase_call run) from (Calls.phase v t) b
-  unfolding phase_call
-  phase_call_lem r s = chain _ r (chain _ s last)
+  pub phase_call_lem : {v : ℕ} {t : TransportCodes} → read v a ≡ number run at → read t b ≡ transport run a → read (Calls.phase v t) b ≡ phase_call run at
+  unfolding phase_call after
+  phase_call_lem r s = rw (← r, ← s)
 
-  pub trigger_call_lem : {v frame : ℕ} → Reads (number run) from v a → Reads (number run) a frame b → Reads (trigger_call run) from (Calls.trigger v frame) b
-  unfolding trigger_call
-  trigger_call_lem r s = chain _ r (chain _ s last)
+  pub trigger_call_lem : {v frame : ℕ} → read v a ≡ number run at → read frame b ≡ number run a → read (Calls.trigger v frame) b ≡ trigger_call run at
+  unfolding trigger_call after
+  trigger_call_lem r s = rw (← r, ← s)
 
-module _ (run : List ℕ) {from a b c d : Place} where
+module _ (run : List ℕ) (at a b c : ℕ) {d : ℕ} where
   pub making : {codes : SettingsCodes} {shared count seed : ℕ}
-      → Reads (settings run) from codes a → Reads (number run) a shared b → Reads (number run) b count c → Reads (number run) c seed d
-      → Reads (make run) from (codes, shared, count, seed) d
-  unfolding make
-  making r₁ r₂ r₃ r₄ = chain _ r₁ (chain _ r₂ (chain _ r₃ (chain _ r₄ last)))
+      → read codes a ≡ settings run at → read shared b ≡ number run a → read count c ≡ number run b → read seed d ≡ number run c
+      → read (codes, shared, count, seed) d ≡ make run at
+  unfolding make after
+  making r₁ r₂ r₃ r₄ = rw (← r₁, ← r₂, ← r₃, ← r₄)
 
   pub block_call_lem : {t : TransportCodes} {frames x y : ℕ}
-      → Reads (transport run) from t a → Reads (number run) a frames b → Reads (up_to 65600 run) b x c → Reads (up_to 65600 run) c y d
-      → Reads (block_call run) from (Calls.block t frames (sevens x) (sevens y)) d
-  unfolding block_call
-  block_call_lem r₁ r₂ r₃ r₄ = chain _ r₁ (chain _ r₂ (chain _ r₃ (chain _ r₄ last)))
+      → read t a ≡ transport run at → read frames b ≡ number run a → read x c ≡ up_to 65600 run b → read y d ≡ up_to 65600 run c
+      → read (Calls.block t frames (sevens x) (sevens y)) d ≡ block_call run at
+  unfolding block_call after
+  block_call_lem r₁ r₂ r₃ r₄ = rw (← r₁, ← r₂, ← r₃, ← r₄)
 
 -- a tag of no call
 pub other_tag : (tag : ℕ) → (tag ≡ 0 → ⊥) → (tag ≡ 1 → ⊥) → (tag ≡ 2 → ⊥) → (tag ≡ 3 → ⊥) → (tag ≡ 4 → ⊥) → (tag ≡ 5 → ⊥) → (tag ≡ 9 → ⊥)

@@ -8,12 +8,10 @@ use lib.ListN.{length, take}
 use Rattle.codes.specs.declared.SettingsCodes.{SettingsCodes}
 use Rattle.codes.specs.declared.TransportCodes.{TransportCodes}
 use Rattle.questions.specs.Answers.{Answer}
-use Rattle.fields.specs.declared.reader.Place.{Place}
-use Rattle.fields.specs.Parser.{Parsed, read}
-use Rattle.fields.specs.Places.{onward, Reads}
+use Rattle.fields.specs.Parser.{Parsed, read, fault}
 use Rattle.outputs.specs.Numbers.{answer_numbers}
-use Rattle.outputs.specs.Output.{none, given_by}
-use Rattle.outputs.proofs.Given.{call_read, call_ill, call_none, make_ill, make_taken, make_refused}
+use Rattle.outputs.specs.Output.{given_by}
+use Rattle.outputs.proofs.Given.{call_ill, make_taken, make_refused}
 use Rattle.ensemble_calls.specs.Ensembles.{EnsembleState}
 use Rattle.ensemble_calls.specs.Calls.{Call, answer, accepts, accepted, step}
 use Rattle.ensemble_calls.specs.Calls as Calls
@@ -27,7 +25,8 @@ use Rattle.ensemble_runner.specs.declared.values.Said.{Said}
 use Rattle.ensemble_runner.specs.Asked.{make}
 use Rattle.ensemble_runner.specs.Numbers.{numbers}
 use Rattle.ensemble_runner.specs.Output.{ensembles}
-use Rattle.ensemble_runner.specs.Promises.{given_of, reply_of, Says, unchanged_by, Replies, RepliesTo, Begins}
+use Rattle.ensemble_runner.specs.Promises.{given_of, reply_of, Says, unchanged_by, Replies}
+use Rattle.ensemble_runner.specs.Promises as Promises
 
 -- what a reply to the call a says
 pub record Answers (e : Ensemble) (a : Call) (r : Reply) : Type 0 where
@@ -37,23 +36,21 @@ pub record Answers (e : Ensemble) (a : Call) (r : Reply) : Type 0 where
   pub state_is : state_of r.ensemble ≡ step (state_of e) a
   pub valid : Valid r.ensemble
 
-module _ (run : List ℕ) (e : Ensemble) {q : ℕ → Parsed Call} {from : Place} {a : Call} {end : Place} (r : Reads q from a end) where
-  pub replies_read : end.fault ≡ 0 → (s : Reply) → s.at ≡ end.at → s.going ≡ true → Answers e a s → Replies run (given_of e run (onward from q)) s
-  unfolding given_by
-  replies_read good s at going w =
-      record {
-        long = w.long;
-        short = w.short;
-        given_is = λ most. call_read ensembles run (state_of e) r good most ∙ rw (at, going, w.numbers_are, w.state_is);
-        valid = w.valid;
-      }
+pub replies_read : (run : List ℕ) (e : Ensemble) {v : Parsed Call} {a : Call} {end : ℕ} → read a end ≡ v → (s : Reply) → s.at ≡ end → s.going ≡ true → Answers e a s
+    → Replies run (given_of e run v) s
+unfolding given_by
+replies_read run e r s at going w =
+    rw (← r)
+    (record {
+      long = w.long;
+      short = w.short;
+      given_is = λ most. rw (at, going, w.numbers_are, w.state_is);
+      valid = w.valid;
+    })
 
-  pub replies_ill : (end.fault ≡ 0 → ⊥) → Valid e → Replies run (given_of e run (onward from q)) (reply_of 255 0 false e)
-  replies_ill bad v = record { long = refl; short = omega arith; given_is = call_ill ensembles run (state_of e) r bad; valid = v }
-
--- no call, from wherever
-pub replies_none : (run : List ℕ) (e : Ensemble) (from : Place) → Valid e → RepliesTo none run from e (reply_of 255 0 false e)
-replies_none run e from v = record { long = refl; short = omega arith; given_is = call_none ensembles run (state_of e) from; valid = v }
+-- malformed bytes
+pub replies_ill : (run : List ℕ) (e : Ensemble) {v : Parsed Call} {n : ℕ} → fault n ≡ v → Valid e → Replies run (given_of e run v) (reply_of 255 0 false e)
+replies_ill run e r v = record { long = refl; short = omega arith; given_is = call_ill ensembles run (state_of e) r; valid = v }
 
 -- a call that sets something or asks for a restart
 pub change_answers : {e : Ensemble} {c : Call} {r : Changed} → Changes e c r → numbers (state_of e) c ≡ answer (state_of e) c ∷ []
@@ -77,19 +74,15 @@ phase_answers e v t w same valid at =
 
 -- ---- making an ensemble
 
-module _ {run : List ℕ} {c : SettingsCodes} {shared count seed : ℕ} {end : Place}
-    (r : Reads (make run) (record { at = 0; fault = 0 }) (c, shared, count, seed) end) {m : Made} (w : Makes c shared count seed m) where
-  pub begins_ill : (end.fault ≡ 0 → ⊥) → Begins run (reply_of 255 0 false m.ensemble)
-  begins_ill bad = record { long = refl; short = omega arith; given_is = make_ill ensembles run r bad; valid = w.valid }
-
-  pub begins_made : end.fault ≡ 0 → m.answer ≡ 0 → Begins run (reply_of 0 end.at true m.ensemble)
-  begins_made good z =
+module _ {run : List ℕ} {c : SettingsCodes} {shared count seed at : ℕ} (r : read (c, shared, count, seed) at ≡ make run 0) {m : Made} (w : Makes c shared count seed m) where
+  pub begins_made : m.answer ≡ 0 → Promises.Made run (reply_of 0 at true m.ensemble)
+  begins_made z =
       record {
         long = refl;
         short = omega arith;
-        given_is = make_taken ensembles run r good (sym w.answer_is ∙ z) ∙ rw w.state_is;
+        given_is = make_taken ensembles run r (sym w.answer_is ∙ z) ∙ rw w.state_is;
         valid = w.valid;
       }
 
-  pub begins_refused : end.fault ≡ 0 → (m.answer ≡ 0 → ⊥) → Begins run (reply_of m.answer 0 false m.ensemble)
-  begins_refused good z = record { long = refl; short = omega arith; given_is = make_refused ensembles run r good w.answer_is z; valid = w.valid }
+  pub begins_refused : (m.answer ≡ 0 → ⊥) → Promises.Made run (reply_of m.answer 0 false m.ensemble)
+  begins_refused z = record { long = refl; short = omega arith; given_is = make_refused ensembles run r w.answer_is z; valid = w.valid }

@@ -3,33 +3,23 @@ use Prim.Native.Nat.{ℕ}
 use mathlib.Core.Path.{◌≡◌}
 use mathlib.Core.Bool.{Bool}
 use mathlib.Core.List.{List}
-use Rattle.number.specs.declared.Writing.{Writing}
-use Rattle.fields.specs.declared.reader.Place.{Place}
-use Rattle.fields.specs.Parser.{Parsed, read}
-use Rattle.fields.specs.Places.{onward, Reads}
+use Rattle.std.specs.Prelude.{Option}
 use Rattle.replies.specs.Replies.{WritesAll}
 use Rattle.outputs.specs.Turns.{turn_of, replied}
-use Rattle.outputs.proofs.Given.{call_read}
 use Rattle.outputs.proofs.Turning as outputs
-use Rattle.ensemble_calls.specs.Calls.{Call}
 use Rattle.ensemble_player.specs.declared.Ensemble.{Ensemble}
 use Rattle.ensemble_player.specs.Ensembles.{state_of, Valid}
 use Rattle.ensemble_runner.specs.declared.Turn.{Turn}
 use Rattle.ensemble_runner.specs.Output.{ensembles}
-use Rattle.ensemble_runner.specs.Promises.{given_of, following, Turns}
+use Rattle.ensemble_runner.specs.Promises.{following, Turns}
 
 -- what is to be written may be said in other words
 pub same_turns : {run : List ℕ} {all all' : ℕ → List (List ℕ)} {x : List ℕ} {place : ℕ} {t : Turn} {y : List ℕ} → ((most : ℕ) → all most ≡ all' most)
     → Turns run all' x place t y → Turns run all x place t y
 same_turns same t = record { turned = outputs.same_turns ensembles same t.turned; valid = t.valid }
 
--- a call that was read well
-pub reads_turns : {run : List ℕ} (e : Ensemble) {q : ℕ → Parsed Call} {from : Place} {a : Call} {end : Place} {x : List ℕ} {place : ℕ} {t : Turn} {y : List ℕ}
-    → Reads q from a end → end.fault ≡ 0 → Turns run (given_of e run (read a end.at)) x place t y → Turns run (given_of e run (onward from q)) x place t y
-reads_turns {run} e r good t = same_turns (call_read ensembles run (state_of e) r good) t
-
 -- the numbers l, and then, unless the run ends with them, the calls from the place `at` on
-pub turned : (run x : List ℕ) (place : ℕ) (l : List ℕ) (at : ℕ) (going : Bool) (e : Ensemble) → Valid e → {w : Writing} {y : List ℕ} → WritesAll x place l w y
+pub turned : (run x : List ℕ) (place : ℕ) (l : List ℕ) (at : ℕ) (going : Bool) (e : Ensemble) → Valid e → {w : Option ℕ} {y : List ℕ} → WritesAll x place l w y
     → {t : Turn} → (following t ≡ turn_of w place at going (state_of e)) × (t.ensemble ≡ e) → Turns run (replied ensembles run l at going (state_of e)) x place t y
 turned run x place l at going e valid g (following_is, same) =
     record { turned = rw following_is (outputs.turned ensembles run x place l at going (state_of e) g); valid = rw same valid }

@@ -1,9 +1,9 @@
 -- What the parts of the code promise. Assumes nothing.
-use Rattle.std.specs.Prelude.{ℕ, ◌+◌, ◌≤◌, ◌≡◌, Bool, true, cond, List, [], ◌∷◌, eqb, length, take}
+use Rattle.std.specs.Prelude.{ℕ, ◌+◌, ◌≤◌, ◌≡◌, Bool, true, cond, List, [], ◌∷◌, eqb, length, take, Result, MatchResult}
 use Rattle.questions.specs.Answers.{Answer}
-use Rattle.fields.specs.declared.reader.Place.{Place}
-use Rattle.fields.specs.Parser.{Parsed, read, Parser}
-use Rattle.fields.specs.Places.{onward}
+use Rattle.number.specs.declared.Fault.{Fault}
+use Rattle.fields.specs.Parser.{Parsed, read, fault, Parser}
+use Rattle.fields.specs.Fields.{fault_number}
 use Rattle.outputs.specs.Numbers.{answer_numbers}
 use Rattle.outputs.specs.Output.{given_from}
 use Rattle.outputs.specs.Turns as outputs
@@ -51,16 +51,19 @@ pub record Replies (run : List ℕ) (all : ℕ → List (List ℕ)) (r : Reply) 
   pub given_is : (most : ℕ) → all most ≡ replied run r most
   pub valid : Valid r.ensemble
 
--- the reply to a call that is read from the place `from` on
-abbrev pub RepliesTo : Parser Call → List ℕ → Place → Ensemble → Reply → Type 0
-RepliesTo q run from e r = Replies run (given_of e run (onward from (q run))) r
+-- the reply to a call that is read from the place `at` on, or the fault in its bytes
+abbrev pub RepliesTo : Parser Call → List ℕ → ℕ → Ensemble → Result Reply Fault → Type 0
+RepliesTo q run at e r = MatchResult r (λ s. Replies run (given_of e run (q run at)) s) (λ f. fault (fault_number f) ≡ q run at)
 
 -- the reply to making an ensemble
-pub record Begins (run : List ℕ) (r : Reply) : Type 0 where
+pub record Made (run : List ℕ) (r : Reply) : Type 0 where
   pub long : length r.numbers ≡ 2
   pub short : r.count ≤ 2
   pub given_is : given_from ensembles run (make run 0) ≡ replied run r (length run)
   pub valid : Valid r.ensemble
+
+abbrev pub Begins : List ℕ → Result Reply Fault → Type 0
+Begins run r = MatchResult r (Made run) (λ f. fault (fault_number f) ≡ make run 0)
 
 -- how it goes on, as the rules see it
 abbrev pub following : Turn → Following EnsembleState
@@ -71,9 +74,10 @@ pub record Turns (run : List ℕ) (all : ℕ → List (List ℕ)) (x : List ℕ)
   pub turned : outputs.Turns ensembles run all x place (following r) y
   pub valid : Valid r.ensemble
 
--- a turn of a call that is read from the place `from` on
-abbrev pub TurnsOn : Parser Call → List ℕ → Place → Ensemble → List ℕ → ℕ → Turn → List ℕ → Type 0
-TurnsOn q run from e x place r y = Turns run (given_of e run (onward from (q run))) x place r y
+-- a turn of a call that is read from the place `at` on; where there is a fault in its bytes nothing is written
+abbrev pub TurnsOn : Parser Call → List ℕ → ℕ → Ensemble → List ℕ → ℕ → Result Turn Fault → List ℕ → Type 0
+TurnsOn q run at e x place r y =
+    MatchResult r (λ t. Turns run (given_of e run (q run at)) x place t y) (λ f. (fault (fault_number f) ≡ q run at) × (y ≡ x))
 
 -- a turn of the call a, with the run's next call at `at`
 abbrev pub TurnsBy : Call → ℕ → Ensemble → List ℕ → ℕ → Turn → List ℕ → Type 0

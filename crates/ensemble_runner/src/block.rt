@@ -7,10 +7,10 @@ ghost use Rattle.ensemble_runner.specs.Asked.{block_call};
 ghost use Rattle.ensemble_runner.specs.Promises.{how_many, TurnsOn, TurnsBy};
 
 use super::Turn;
-use super::writing::{malformed, turn_of, write_reply};
+use super::writing::turn_of;
 use codes::TransportCodes;
 use ensemble_player::Ensemble;
-use fields::Place;
+use fields::Fault;
 
 // The most elements of a buffer.
 const MOST: usize = 65600;
@@ -37,10 +37,8 @@ fn numbers_of(answer: u8, finished: [bool; MAX_VOICES]) -> [u64; MAX_NUMBERS]
 {
     let mut numbers = [0u64; MAX_NUMBERS];
     numbers[0] = answer as u64;
-    let mut v = 0;
-    while v < MAX_VOICES {
+    for v in 0..MAX_VOICES {
         numbers[v + 1] = flag(finished[v]);
-        v += 1;
     }
     numbers
 }
@@ -114,27 +112,29 @@ fn play_anew(
 }
 
 // Reads a block's bytes, plays it, and writes what it gives.
-pub fn block_turn(run: &[u8], from: Place, e: Ensemble, out: &mut [u8], place: usize) -> Turn
+#[tactic(auto, unfolding(crate::specs::Asked::block_call, fields::specs::Parser::after))]
+pub fn block_turn(
+    run: &[u8],
+    at: usize,
+    e: Ensemble,
+    out: &mut [u8],
+    place: usize,
+) -> Result<Turn, Fault>
     requires { Valid e }
-    ensures { TurnsOn block_call run.now from e out.old place result out.new }
+    ensures { TurnsOn block_call run.now at e out.old place result out.new }
 {
-    let t = runs::read_transport(run, from);
-    let frames = fields::read_number(run, t.next);
-    let x = fields::read_below(run, frames.next, LIMIT);
-    let y = fields::read_below(run, x.next, LIMIT);
-    let next = y.next;
-    if next.fault == 0 {
-        let codes = t.value;
-        return play_anew(
-            codes,
-            frames.value,
-            x.value as usize,
-            y.value as usize,
-            next.at,
-            e,
-            out,
-            place,
-        );
-    }
-    write_reply(out, place, malformed(e))
+    let (transport, at) = runs::read_transport(run, at)?;
+    let (frames, at) = fields::read_number(run, at)?;
+    let (x_len, at) = fields::read_below(run, at, LIMIT)?;
+    let (y_len, at) = fields::read_below(run, at, LIMIT)?;
+    Ok(play_anew(
+        transport,
+        frames,
+        x_len as usize,
+        y_len as usize,
+        at,
+        e,
+        out,
+        place,
+    ))
 }

@@ -4,83 +4,59 @@ ghost use Rattle.ensemble_runner.specs.Asked.{settings_call, shape_call, path_ca
 ghost use Rattle.ensemble_runner.specs.Promises.{RepliesTo};
 
 use super::Reply;
-use super::writing::{changed, malformed};
+use super::writing::changed;
 use ensemble_player::Ensemble;
-use fields::Place;
+use fields::Fault;
 
 // Tag 0: the settings, and whether one voice serves all.
-pub fn settings_reply(run: &[u8], from: Place, e: Ensemble) -> Reply
+#[tactic(auto, unfolding(crate::specs::Asked::settings_call, fields::specs::Parser::after))]
+pub fn settings_reply(run: &[u8], at: usize, e: Ensemble) -> Result<Reply, Fault>
     requires { Valid e }
-    ensures { RepliesTo settings_call run.now from e result }
+    ensures { RepliesTo settings_call run.now at e result }
 {
-    let c = runs::read_settings(run, from);
-    let shared = fields::read_number(run, c.next);
-    let next = shared.next;
-    if next.fault == 0 {
-        let codes = c.value;
-        return changed(
-            ensemble_player::set_settings(e, codes, shared.value),
-            next.at,
-        );
-    }
-    malformed(e)
+    let (codes, at) = runs::read_settings(run, at)?;
+    let (shared, at) = fields::read_number(run, at)?;
+    Ok(changed(ensemble_player::set_settings(e, codes, shared), at))
 }
 
 // Tag 1: the shape.
-pub fn shape_reply(run: &[u8], from: Place, e: Ensemble) -> Reply
+#[tactic(auto, unfolding(crate::specs::Asked::shape_call, fields::specs::Parser::after))]
+pub fn shape_reply(run: &[u8], at: usize, e: Ensemble) -> Result<Reply, Fault>
     requires { Valid e }
-    ensures { RepliesTo shape_call run.now from e result }
+    ensures { RepliesTo shape_call run.now at e result }
 {
-    let s = runs::read_shape(run, from);
-    let next = s.next;
-    if next.fault == 0 {
-        let codes = s.value;
-        return changed(ensemble_player::set_shape(e, codes), next.at);
-    }
-    malformed(e)
+    let (codes, at) = runs::read_shape(run, at)?;
+    Ok(changed(ensemble_player::set_shape(e, codes), at))
 }
 
 // Tag 2: the path.
-pub fn path_reply(run: &[u8], from: Place, e: Ensemble) -> Reply
+#[tactic(auto, unfolding(crate::specs::Asked::path_call, fields::specs::Parser::after))]
+pub fn path_reply(run: &[u8], at: usize, e: Ensemble) -> Result<Reply, Fault>
     requires { Valid e }
-    ensures { RepliesTo path_call run.now from e result }
+    ensures { RepliesTo path_call run.now at e result }
 {
-    let s = runs::read_path(run, from);
-    let next = s.next;
-    if next.fault == 0 {
-        let codes = s.value;
-        return changed(ensemble_player::set_path(e, codes), next.at);
-    }
-    malformed(e)
+    let (codes, at) = runs::read_path(run, at)?;
+    Ok(changed(ensemble_player::set_path(e, codes), at))
 }
 
 // Tag 3: one bus.
-pub fn bus_reply(run: &[u8], from: Place, e: Ensemble) -> Reply
+#[tactic(auto, unfolding(crate::specs::Asked::bus_call, fields::specs::Parser::after))]
+pub fn bus_reply(run: &[u8], at: usize, e: Ensemble) -> Result<Reply, Fault>
     requires { Valid e }
-    ensures { RepliesTo bus_call run.now from e result }
+    ensures { RepliesTo bus_call run.now at e result }
 {
-    let bus = fields::read_number(run, from);
-    let value = fields::read_f32(run, bus.next);
-    let next = value.next;
-    if next.fault == 0 {
-        return changed(ensemble_player::set_bus(e, bus.value, value.value), next.at);
-    }
-    malformed(e)
+    let (bus, at) = fields::read_number(run, at)?;
+    let (value, at) = fields::read_f32(run, at)?;
+    Ok(changed(ensemble_player::set_bus(e, bus, value), at))
 }
 
 // Tag 9: a restart asked for.
-pub fn trigger_reply(run: &[u8], from: Place, e: Ensemble) -> Reply
+#[tactic(auto, unfolding(crate::specs::Asked::trigger_call, fields::specs::Parser::after))]
+pub fn trigger_reply(run: &[u8], at: usize, e: Ensemble) -> Result<Reply, Fault>
     requires { Valid e }
-    ensures { RepliesTo trigger_call run.now from e result }
+    ensures { RepliesTo trigger_call run.now at e result }
 {
-    let voice = fields::read_number(run, from);
-    let frame = fields::read_number(run, voice.next);
-    let next = frame.next;
-    if next.fault == 0 {
-        return changed(
-            ensemble_player::trigger(e, voice.value, frame.value),
-            next.at,
-        );
-    }
-    malformed(e)
+    let (voice, at) = fields::read_number(run, at)?;
+    let (frame, at) = fields::read_number(run, at)?;
+    Ok(changed(ensemble_player::trigger(e, voice, frame), at))
 }

@@ -6,13 +6,12 @@ ghost use Rattle.ensemble_runner.specs.Asked.{phase_call};
 ghost use Rattle.ensemble_runner.specs.Promises.{unchanged_by, Says, RepliesTo};
 
 use super::Reply;
-use super::writing::malformed;
 use ensemble_player::Ensemble;
-use fields::Place;
+use fields::Fault;
 use player::PhaseResult;
 
 // The first `count` of the numbers.
-#[derive(Drop)]
+#[derive(Clone, Copy)]
 pub struct Said {
     pub numbers: [u64; 2],
     pub count: usize,
@@ -49,17 +48,13 @@ fn phase_says(v: PhaseResult) -> Said
 }
 
 // Reads a voice and a transport, and the voice's phase there.
-pub fn phase_reply(run: &[u8], from: Place, e: Ensemble) -> Reply
+#[tactic(auto, unfolding(crate::specs::Asked::phase_call, fields::specs::Parser::after))]
+pub fn phase_reply(run: &[u8], at: usize, e: Ensemble) -> Result<Reply, Fault>
     requires { Valid e }
-    ensures { RepliesTo phase_call run.now from e result }
+    ensures { RepliesTo phase_call run.now at e result }
 {
-    let v = fields::read_number(run, from);
-    let t = runs::read_transport(run, v.next);
-    let next = t.next;
-    if next.fault == 0 {
-        let codes = t.value;
-        let p = ensemble_player::phase(e, v.value, codes);
-        return unchanged(phase_says(p), next.at, e);
-    }
-    malformed(e)
+    let (voice, at) = fields::read_number(run, at)?;
+    let (codes, at) = runs::read_transport(run, at)?;
+    let said = phase_says(ensemble_player::phase(e, voice, codes));
+    Ok(unchanged(said, at, e))
 }

@@ -6,7 +6,6 @@ ghost use Rattle.ensemble_runner.specs.Promises.{reply_of, replied, following, T
 
 use super::{Reply, Turn};
 use ensemble_player::{Changed, Ensemble};
-use number::Writing;
 
 // One number.
 pub fn reply(n: u64, at: usize, going: bool, e: Ensemble) -> Reply
@@ -31,24 +30,26 @@ pub fn changed(r: Changed, at: usize) -> Reply
 }
 
 // "Where the bytes of a call are malformed, the output ends with the number 255".
+pub const MALFORMED: u64 = 255;
+
 pub fn malformed(e: Ensemble) -> Reply
     ensures { result ≡ reply_of 255 0 false e }
 {
-    reply(255, 0, false, e)
+    reply(MALFORMED, 0, false, e)
 }
 
 // Where the run goes on after a call whose numbers were written at `place`, or had no room.
-pub fn turn_of(w: Writing, place: usize, at: usize, going: bool, e: Ensemble) -> Turn
+pub fn turn_of(w: Option<usize>, place: usize, at: usize, going: bool, e: Ensemble) -> Turn
     ensures { (following result ≡ turn_of w place at going (state_of e)) × (result.ensemble ≡ e) }
 {
     match w {
-        Writing::Next(after) => Turn {
+        Some(after) => Turn {
             at,
             going,
             place: after,
             ensemble: e,
         },
-        Writing::NoRoom => Turn {
+        None => Turn {
             at,
             going: false,
             place,

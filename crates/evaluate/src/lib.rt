@@ -9,21 +9,21 @@ use codes::{PathCodes, ShapeCodes};
 use points::MAX_POINTS;
 
 // The number of the question that refused the call, or the value of a shape.
-#[derive(Drop)]
+#[derive(Clone, Copy)]
 pub enum ShapeResult {
     Refused(u8),
     At(f32),
 }
 
 // The number of the question that refused the call, or X and Y of a path.
-#[derive(Drop)]
+#[derive(Clone, Copy)]
 pub enum PathResult {
     Refused(u8),
     At { x: f32, y: f32 },
 }
 
 // The number of the question that refused the call, and then no leg; or 0, how many legs a path has, and their lengths. Zeros follow.
-#[derive(Drop)]
+#[derive(Clone, Copy)]
 pub struct Legs {
     pub answer: u8,
     pub count: usize,

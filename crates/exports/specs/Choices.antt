@@ -4,12 +4,9 @@ use Rattle.std.specs.Float.{nan}
 use Rattle.floatlaws.specs.Numbers.{f32_0, f64_4}
 use Rattle.settings.specs.Times.{default_scale}
 use Rattle.settings.specs.declared.division.Division.{Division}
-use Rattle.settings.specs.declared.division.DivisionCode.{DivisionCode}
-use Rattle.settings.specs.declared.division.DivisionCode.TheVariants as DivisionCode
 use Rattle.settings.specs.declared.times.Rate.{Rate}
 use Rattle.settings.specs.declared.times.Rate.TheVariants.{Synced, Hz}
 use Rattle.settings.specs.declared.times.Span.{Span}
-use Rattle.settings.specs.declared.times.Span.TheVariants as Span
 use Rattle.settings.specs.declared.record.Transport.{Transport}
 
 abbrev pub yes_number : Bool → ℕ
@@ -18,12 +15,6 @@ yes_number false = 0
 
 abbrev pub division_number : Division → ℕ
 division_number d = d.0
-
--- `f` of a known division; and of one that is not known `u`
-module _ {A : Type 0} (u : A) where
-  abbrev pub with_division : DivisionCode → (Division → A) → A
-  with_division (DivisionCode.Known x) f = f x
-  with_division DivisionCode.Unknown f = u
 
 abbrev pub hertz : Rate → Float
 hertz (Synced d f) = nan

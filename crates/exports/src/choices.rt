@@ -5,11 +5,11 @@ ghost use Rattle.floatlaws.specs.Numbers.{f64_0};
 ghost use Rattle.settings.specs.Choices.{lfo_type_at, generates};
 ghost use Rattle.settings.specs.Divisions.{division_at, nearest_division, knob_of, stored_of};
 ghost use Rattle.settings.specs.Times.{hz_at, span_at_index};
-ghost use Rattle.settings.specs.Codes.{with_kind};
+ghost use Rattle.settings.specs.Codes.{with_known};
 ghost use Rattle.settings.specs.Records.{advanced_transport};
-ghost use Rattle.exports.specs.Choices.{yes_number, with_division, division_number, span_number, hertz, song_at};
+ghost use Rattle.exports.specs.Choices.{yes_number, division_number, span_number, hertz, song_at};
 
-use settings::{Division, DivisionCode, LfoType, LfoTypeCode, Rate, Scale, Span, Transport};
+use settings::{Division, LfoType, Rate, Scale, Span, Transport};
 
 // ---- kinds and divisions: where a code or an index is not known, the answer is 255 or NaN
 
@@ -21,11 +21,11 @@ fn yes_number(b: bool) -> u64
 
 #[unsafe(no_mangle)]
 pub extern "C" fn kind_is_generator(code: u64) -> u64
-    ensures { result ≡ with_kind 255 (lfo_type_at code) (λ k. yes_number (generates k)) }
+    ensures { result ≡ with_known 255 (lfo_type_at code) (λ k. yes_number (generates k)) }
 {
     match LfoType::from_code(code) {
-        LfoTypeCode::Known(k) => yes_number(k.is_generator()),
-        LfoTypeCode::Unknown => 255,
+        Some(k) => yes_number(k.is_generator()),
+        None => 255,
     }
 }
 
@@ -43,11 +43,11 @@ fn nan() -> f32
 
 #[unsafe(no_mangle)]
 pub extern "C" fn division_new(index: u8) -> u64
-    ensures { result ≡ with_division 255 (division_at index) division_number }
+    ensures { result ≡ with_known 255 (division_at index) division_number }
 {
     match Division::new(index) {
-        DivisionCode::Known(d) => division_number(d),
-        DivisionCode::Unknown => 255,
+        Some(d) => division_number(d),
+        None => 255,
     }
 }
 
@@ -60,21 +60,21 @@ pub extern "C" fn division_from_normalised(n: f32) -> u64
 
 #[unsafe(no_mangle)]
 pub extern "C" fn division_normalised(index: u8) -> f32
-    ensures { result ≡ with_division nan (division_at index) knob_of }
+    ensures { result ≡ with_known nan (division_at index) knob_of }
 {
     match Division::new(index) {
-        DivisionCode::Known(d) => d.normalised(),
-        DivisionCode::Unknown => nan(),
+        Some(d) => d.normalised(),
+        None => nan(),
     }
 }
 
 #[unsafe(no_mangle)]
 pub extern "C" fn division_stored(index: u8) -> f32
-    ensures { result ≡ with_division nan (division_at index) stored_of }
+    ensures { result ≡ with_known nan (division_at index) stored_of }
 {
     match Division::new(index) {
-        DivisionCode::Known(d) => d.stored(),
-        DivisionCode::Unknown => nan(),
+        Some(d) => d.stored(),
+        None => nan(),
     }
 }
 

@@ -5,22 +5,22 @@ ghost use Rattle.floatlaws.specs.Numbers.{f64_0};
 ghost use Rattle.settings.specs.Choices.{lfo_type_at, generates};
 ghost use Rattle.settings.specs.Divisions.{division_at, nearest_division, knob_of, stored_of};
 ghost use Rattle.settings.specs.Times.{hz_at, span_at_index};
-ghost use Rattle.settings.specs.Codes.{with_kind};
+ghost use Rattle.settings.specs.Codes.{with_known};
 ghost use Rattle.settings.specs.Records.{advanced_transport};
-ghost use Rattle.exports.specs.Choices.{yes_number, with_division, division_number, span_number, hertz, song_at};
+ghost use Rattle.exports.specs.Choices.{yes_number, division_number, span_number, hertz, song_at};
 
 // ---- kinds and divisions: where a code or an index is not known, the answer is 255 or NaN
 
 #[unsafe(no_mangle)]
 pub extern "C" fn kind_is_generator(code: u64) -> u64
-    ensures { result ≡ with_kind 255 (lfo_type_at code) (λ k. yes_number (generates k)) }
+    ensures { result ≡ with_known 255 (lfo_type_at code) (λ k. yes_number (generates k)) }
 {
     exports::choices::kind_is_generator(code)
 }
 
 #[unsafe(no_mangle)]
 pub extern "C" fn division_new(index: u8) -> u64
-    ensures { result ≡ with_division 255 (division_at index) division_number }
+    ensures { result ≡ with_known 255 (division_at index) division_number }
 {
     exports::choices::division_new(index)
 }
@@ -34,14 +34,14 @@ pub extern "C" fn division_from_normalised(n: f32) -> u64
 
 #[unsafe(no_mangle)]
 pub extern "C" fn division_normalised(index: u8) -> f32
-    ensures { result ≡ with_division nan (division_at index) knob_of }
+    ensures { result ≡ with_known nan (division_at index) knob_of }
 {
     exports::choices::division_normalised(index)
 }
 
 #[unsafe(no_mangle)]
 pub extern "C" fn division_stored(index: u8) -> f32
-    ensures { result ≡ with_division nan (division_at index) stored_of }
+    ensures { result ≡ with_known nan (division_at index) stored_of }
 {
     exports::choices::division_stored(index)
 }

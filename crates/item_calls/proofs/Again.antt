@@ -1,4 +1,5 @@
 -- What is kept of an item makes the same player: settings, shapes and paths of codes that are kept are those of the codes. Assumes nothing.
+use Rattle.std.specs.Prelude.{None, Some, Option}
 use Prim.Native.Nat.{ℕ, zero, suc, min}
 use mathlib.Core.Path.{◌≡◌, refl, sym, ap, ◌∙◌}
 use mathlib.Core.Bool.{Bool, true, false, cond}
@@ -9,9 +10,7 @@ use lib.Dec.{eqb}
 use lib.Ieee.{Float}
 use Rattle.floatlaws.specs.Numbers.{f32_0}
 use Rattle.points.specs.declared.PointMod.{PointMod}
-use Rattle.points.specs.declared.PointMod.TheVariants as PointMod
 use Rattle.shape.specs.declared.sorting.Point.{Point}
-use Rattle.shape.specs.declared.Loopback.TheVariants as Loopback
 use Rattle.shape.specs.Shapes.{within, shape_of}
 use Rattle.path_segments.specs.Times.{segments_of, times_of}
 use Rattle.path.specs.declared.PathPoint.{PathPoint}
@@ -26,7 +25,7 @@ use Rattle.codes.specs.declared.ShapeCodes.{ShapeCodes}
 use Rattle.codes.specs.declared.PathCodes.{PathCodes}
 use Rattle.codes.specs.declared.ItemCodes.{ItemCodes}
 use Rattle.settings.specs.Times.{rate_at, span_at}
-use Rattle.settings.specs.Codes.{smooth_at, with_spans, with_switches, settings_at}
+use Rattle.settings.specs.Codes.{smooth_at, settings_at}
 use Rattle.curves.specs.Given.{is_yes, mod_of, point_of, loopback_of, given_shape, path_point_of, given_path}
 use Rattle.questions.specs.Questions.{first_no, settings_questions}
 use Rattle.questions.specs.Tests.{shape_known, loopback_in, path_on_paper}
@@ -83,7 +82,7 @@ smooth_again c = by_code c.code c.coefficient
     by_code (suc (suc n)) coefficient = refl
 
 settings_again : (c : SettingsCodes) → settings_at (kept_settings c) ≡ settings_at c
-unfolding kept_settings settings_at with_switches with_spans
+unfolding kept_settings settings_at
 settings_again c = rw (rate_again c.rate, span_again c.fade_in, span_again c.delay, smooth_again c.smooth)
 
 answer_again : (c : SettingsCodes) → first_no (settings_questions (kept_settings c)) ≡ first_no (settings_questions c)
@@ -97,10 +96,10 @@ made_again c seed d =
 
 -- ---- codes of points, and the points again
 
-mod_back : (m : PointMod) → mod_of (codes_of_mod m) ≡ m
+mod_back : (m : Option PointMod) → mod_of (codes_of_mod m) ≡ m
 unfolding mod_of
-mod_back PointMod.None = refl
-mod_back (PointMod.Bus bus depth) = refl
+mod_back None = refl
+mod_back (Some m) = refl
 
 yes_back : (t : Bool) → is_yes (cond t 1 0) ≡ t
 yes_back true = refl
@@ -130,7 +129,7 @@ loopback_again : (c : LoopbackCodes) → loopback_of (kept_loopback c) ≡ loopb
 unfolding kept_loopback loopback_of
 loopback_again c = by_test (eqb c.code 1) c.index
   where
-    by_test : (t : Bool) (n : ℕ) → cond t (Loopback.At (cond t n 0)) Loopback.None ≡ cond t (Loopback.At n) Loopback.None
+    by_test : (t : Bool) (n : ℕ) → cond t (Some (cond t n 0)) None ≡ cond t (Some n) None
     by_test true n = refl
     by_test false n = refl
 

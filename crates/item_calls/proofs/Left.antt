@@ -1,4 +1,5 @@
 -- The player that an item's calls leave. Assumes nothing.
+use Rattle.std.specs.Prelude.{None, Option, Some}
 use Prim.Native.Nat.{ℕ, suc}
 use mathlib.Core.Path.{◌≡◌, refl, sym, ap, ◌∙◌}
 use mathlib.Core.Bool.{Bool, true, false, cond}
@@ -10,8 +11,6 @@ use lib.Ieee.{Float, nan, eq}
 use Rattle.floatlaws.specs.Numbers.{f32_0}
 use Rattle.codes.specs.declared.SettingsCodes.{SettingsCodes}
 use Rattle.codes.specs.declared.ItemCodes.{ItemCodes}
-use Rattle.settings.specs.declared.record.SettingsCode.{SettingsCode}
-use Rattle.settings.specs.declared.record.SettingsCode.TheVariants as SettingsCode
 use Rattle.settings.specs.Codes.{settings_at}
 use Rattle.shape.specs.declared.Shape.{Shape}
 use Rattle.path.specs.declared.Path.{Path}
@@ -22,6 +21,7 @@ use Rattle.record.specs.Kept.{codes_of_point, codes_of_path_point, kept_shape, k
 use Rattle.record.specs.Questions.{item_answer}
 use Rattle.item_calls.specs.Calls.{bus_calls, item_calls, item_state, entered, PlaysTheItem, StoresTheWritten}
 use Rattle.item_calls.proofs.Accepted.{BusesPass, next_pass, bus_passes, shape_passes, path_passes, buses_pass}
+use Rattle.settings.specs.declared.record.Settings.{Settings}
 
 -- a player with these curves and buses
 abbrev pub with_curves : State → Shape → Path → List Float → State
@@ -75,11 +75,11 @@ made_new : (c : SettingsCodes) (seed : ℕ) → ((made c seed).lfo.buses ≡ rep
 unfolding made new_state
 made_new c seed = by_codes (makes c) (settings_at c)
   where
-    by_codes : (t : Bool) (k : SettingsCode)
+    by_codes : (t : Bool) (k : Option Settings)
         → let p = cond t (by_settings (no_player seed) k (λ s. new_state s seed)) (no_player seed) in (p.lfo.buses ≡ replicate 16 f32_0) × (p.played ≡ 0)
     by_codes false k = (refl, refl)
-    by_codes true (SettingsCode.Known s) = (refl, refl)
-    by_codes true SettingsCode.Unknown = (refl, refl)
+    by_codes true (Some s) = (refl, refl)
+    by_codes true None = (refl, refl)
 
 pub left : (i : ItemCodes) → length i.buses ≡ 16 → item_answer i ≡ 0
     → item_state i ≡ with_curves (made i.settings i.seed) (given_shape i.shape) (given_path i.path) (map entered i.buses)

@@ -15,11 +15,8 @@ fn with_buses(p: Player, buses: [f32; POINT_BUSES]) -> Player
     ensures { (state_of result ≡ after (state_of p) (bus_calls buses 0)) × Valid result }
 {
     let mut q = p;
-    let mut k: usize = 0;
-    while k < POINT_BUSES {
-        let r = player::set_bus(q, k as u64, buses[k]);
-        q = r.player;
-        k += 1;
+    for k in 0..POINT_BUSES {
+        q = player::set_bus(q, k as u64, buses[k]).player;
     }
     q
 }
@@ -28,12 +25,8 @@ fn with_buses(p: Player, buses: [f32; POINT_BUSES]) -> Player
 pub fn player_of(c: ItemCodes) -> Player
     ensures { (state_of result ≡ item_state c) × Valid result }
 {
-    let settings = c.settings;
-    let made = player::make(settings, c.seed);
-    let shape = c.shape;
-    let shaped = player::set_shape(made.player, shape);
-    let path = c.path;
-    let pathed = player::set_path(shaped.player, path);
-    let buses = c.buses;
-    with_buses(pathed.player, buses)
+    let made = player::make(c.settings, c.seed).player;
+    let shaped = player::set_shape(made, c.shape).player;
+    let pathed = player::set_path(shaped, c.path).player;
+    with_buses(pathed, c.buses)
 }

@@ -1,143 +1,92 @@
 // Settings and scales.
-ghost use Rattle.fields.specs.Places.{Reads};
+ghost use Rattle.std.specs.Prelude.{◌≡◌};
+ghost use Rattle.fields.specs.Fields.{parsed};
 ghost use Rattle.record.specs.Reading.{rate, span, smooth, settings, scale};
 
 use codes::{RateCodes, ScaleCodes, SettingsCodes, SmoothCodes, SpanCodes};
-use fields::{Place, read_below, read_below_if, read_f32, read_f32_if, read_short};
+use fields::{Fault, read_below, read_f32, read_if, read_short};
 
-#[derive(Drop)]
-pub struct RateRead {
-    pub value: RateCodes,
-    pub next: Place,
-}
-
-#[derive(Drop)]
-pub struct SpanRead {
-    pub value: SpanCodes,
-    pub next: Place,
-}
-
-#[derive(Drop)]
-pub struct SmoothRead {
-    pub value: SmoothCodes,
-    pub next: Place,
-}
-
-#[derive(Drop)]
-pub struct SettingsRead {
-    pub value: SettingsCodes,
-    pub next: Place,
-}
-
-#[derive(Drop)]
-pub struct ScaleRead {
-    pub value: ScaleCodes,
-    pub next: Place,
-}
-
-fn read_rate(s: &[u8], from: Place) -> RateRead
-    ensures { Reads (rate s.now) from result.value result.next }
+#[tactic(auto, unfolding(record::specs::Reading::rate, fields::specs::Parser::after))]
+fn read_rate(s: &[u8], at: usize) -> Result<(RateCodes, usize), Fault>
+    ensures { parsed result ≡ rate s.now at }
 {
-    let code = read_below(s, from, 2);
-    let division = read_below_if(s, code.next, code.value == 0, 15);
-    let feel = read_below_if(s, division.next, code.value == 0, 3);
-    let hz = read_f32_if(s, feel.next, code.value == 1);
-    let x10 = read_below_if(s, hz.next, code.value == 1, 2);
-    let next = x10.next;
-    RateRead {
-        value: RateCodes {
-            code: code.value,
-            division: division.value,
-            feel: feel.value,
-            hz: hz.value,
-            x10: x10.value,
-        },
-        next,
-    }
+    let (code, at) = read_below(s, at, 2)?;
+    let (division, at) = read_if(at, code == 0, 0, |at| read_below(s, at, 15))?;
+    let (feel, at) = read_if(at, code == 0, 0, |at| read_below(s, at, 3))?;
+    let (hz, at) = read_if(at, code == 1, 0.0, |at| read_f32(s, at))?;
+    let (x10, at) = read_if(at, code == 1, 0, |at| read_below(s, at, 2))?;
+    let rate = RateCodes {
+        code,
+        division,
+        feel,
+        hz,
+        x10,
+    };
+    Ok((rate, at))
 }
 
-fn read_span(s: &[u8], from: Place) -> SpanRead
-    ensures { Reads (span s.now) from result.value result.next }
+#[tactic(auto, unfolding(record::specs::Reading::span, fields::specs::Parser::after))]
+fn read_span(s: &[u8], at: usize) -> Result<(SpanCodes, usize), Fault>
+    ensures { parsed result ≡ span s.now at }
 {
-    let code = read_below(s, from, 3);
-    let division = read_below_if(s, code.next, code.value == 1, 15);
-    let seconds = read_f32_if(s, division.next, code.value == 2);
-    let next = seconds.next;
-    SpanRead {
-        value: SpanCodes {
-            code: code.value,
-            division: division.value,
-            seconds: seconds.value,
-        },
-        next,
-    }
+    let (code, at) = read_below(s, at, 3)?;
+    let (division, at) = read_if(at, code == 1, 0, |at| read_below(s, at, 15))?;
+    let (seconds, at) = read_if(at, code == 2, 0.0, |at| read_f32(s, at))?;
+    let span = SpanCodes {
+        code,
+        division,
+        seconds,
+    };
+    Ok((span, at))
 }
 
-fn read_smooth(s: &[u8], from: Place) -> SmoothRead
-    ensures { Reads (smooth s.now) from result.value result.next }
+#[tactic(auto, unfolding(record::specs::Reading::smooth, fields::specs::Parser::after))]
+fn read_smooth(s: &[u8], at: usize) -> Result<(SmoothCodes, usize), Fault>
+    ensures { parsed result ≡ smooth s.now at }
 {
-    let code = read_below(s, from, 2);
-    let coefficient = read_f32_if(s, code.next, code.value == 1);
-    let next = coefficient.next;
-    SmoothRead {
-        value: SmoothCodes {
-            code: code.value,
-            coefficient: coefficient.value,
-        },
-        next,
-    }
+    let (code, at) = read_below(s, at, 2)?;
+    let (coefficient, at) = read_if(at, code == 1, 0.0, |at| read_f32(s, at))?;
+    Ok((SmoothCodes { code, coefficient }, at))
 }
 
-pub fn read_settings(s: &[u8], from: Place) -> SettingsRead
-    ensures { Reads (settings s.now) from result.value result.next }
+#[tactic(auto, unfolding(record::specs::Reading::settings, fields::specs::Parser::after))]
+pub fn read_settings(s: &[u8], at: usize) -> Result<(SettingsCodes, usize), Fault>
+    ensures { parsed result ≡ settings s.now at }
 {
-    let kind = read_below(s, from, 5);
-    let mode = read_below(s, kind.next, 3);
-    let direction = read_below(s, mode.next, 3);
-    let rate = read_rate(s, direction.next);
-    let song_lock = read_below(s, rate.next, 2);
-    let swing = read_below(s, song_lock.next, 2);
-    let fade_in = read_span(s, swing.next);
-    let delay = read_span(s, fade_in.next);
-    let smooth = read_smooth(s, delay.next);
-    let phase = read_f32(s, smooth.next);
-    let phase_snap = read_below(s, phase.next, 2);
-    let grid_x = read_short(s, phase_snap.next);
-    let rate_codes = rate.value;
-    let fade_in_codes = fade_in.value;
-    let delay_codes = delay.value;
-    let smooth_codes = smooth.value;
-    let next = grid_x.next;
-    SettingsRead {
-        value: SettingsCodes {
-            kind: kind.value,
-            mode: mode.value,
-            direction: direction.value,
-            rate: rate_codes,
-            song_lock: song_lock.value,
-            swing: swing.value,
-            fade_in: fade_in_codes,
-            delay: delay_codes,
-            smooth: smooth_codes,
-            phase: phase.value,
-            phase_snap: phase_snap.value,
-            grid_x: grid_x.value,
-        },
-        next,
-    }
+    let (kind, at) = read_below(s, at, 5)?;
+    let (mode, at) = read_below(s, at, 3)?;
+    let (direction, at) = read_below(s, at, 3)?;
+    let (rate, at) = read_rate(s, at)?;
+    let (song_lock, at) = read_below(s, at, 2)?;
+    let (swing, at) = read_below(s, at, 2)?;
+    let (fade_in, at) = read_span(s, at)?;
+    let (delay, at) = read_span(s, at)?;
+    let (smooth, at) = read_smooth(s, at)?;
+    let (phase, at) = read_f32(s, at)?;
+    let (phase_snap, at) = read_below(s, at, 2)?;
+    let (grid_x, at) = read_short(s, at)?;
+    let settings = SettingsCodes {
+        kind,
+        mode,
+        direction,
+        rate,
+        song_lock,
+        swing,
+        fade_in,
+        delay,
+        smooth,
+        phase,
+        phase_snap,
+        grid_x,
+    };
+    Ok((settings, at))
 }
 
-pub fn read_scale(s: &[u8], from: Place) -> ScaleRead
-    ensures { Reads (scale s.now) from result.value result.next }
+#[tactic(auto, unfolding(record::specs::Reading::scale, fields::specs::Parser::after))]
+pub fn read_scale(s: &[u8], at: usize) -> Result<(ScaleCodes, usize), Fault>
+    ensures { parsed result ≡ scale s.now at }
 {
-    let code = read_below(s, from, 2);
-    let percent = read_f32(s, code.next);
-    let next = percent.next;
-    ScaleRead {
-        value: ScaleCodes {
-            code: code.value,
-            percent: percent.value,
-        },
-        next,
-    }
+    let (code, at) = read_below(s, at, 2)?;
+    let (percent, at) = read_f32(s, at)?;
+    Ok((ScaleCodes { code, percent }, at))
 }

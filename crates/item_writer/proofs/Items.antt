@@ -17,8 +17,7 @@ use Rattle.path.specs.declared.Path.{Path}
 use Rattle.codes.specs.declared.ShapeCodes.{ShapeCodes}
 use Rattle.codes.specs.declared.PathCodes.{PathCodes}
 use Rattle.curves.specs.Given.{given_shape, given_path}
-use Rattle.number.specs.declared.Writing.{Writing}
-use Rattle.number.specs.declared.Writing.TheVariants.{Next, NoRoom}
+use Rattle.std.specs.Prelude.{Option, Some, None}
 use Rattle.replies.specs.Replies.{bytes_of, WritesAll}
 use Rattle.replies.proofs.Laws.{bytes_length}
 use Rattle.fields.specs.Bytes.{number_bytes, f32_bytes, f64_bytes, row_bytes}
@@ -88,20 +87,20 @@ module _ (i : ItemCodes) (typed : Typed i) (x l : List ℕ) (is : bytes_of l ≡
   promised false e = let w = write_answer_lem i (length x) in (rw (w, zero_is, e), rw (w, zero_is, e), rw (w, zero_is, e))
 
   -- and what was done
-  done : {r : Writing} {y : List ℕ} → WritesAll x 0 l r y → (t : Bool) → leb (length b) (length x) ≡ t
-      → (r ≡ cond t (Next (length b)) NoRoom) × (y ≡ cond t (over x 0 b) x)
+  done : {r : Option ℕ} {y : List ℕ} → WritesAll x 0 l r y → (t : Bool) → leb (length b) (length x) ≡ t
+      → (r ≡ cond t (Some (length b)) None) × (y ≡ cond t (over x 0 b) x)
   done g t e =
       let plain : 0 + length b ≡ length b = omega arith in
       (rw (is, plain, e) at g.answer, rw (is, plain, e) at g.bytes)
 
-  pub is_written : {len : ℕ} {r : Writing} {y : List ℕ} → r ≡ Next len → WritesAll x 0 l r y → WritesRecord i x (record { answer = 0; len = len }) y
+  pub is_written : {len : ℕ} {r : Option ℕ} {y : List ℕ} → r ≡ Some len → WritesAll x 0 l r y → WritesRecord i x (record { answer = 0; len = len }) y
   is_written {len} {r} {y} next g = by_room (leb (length b) (length x)) refl
     where
       by_room : (t : Bool) → leb (length b) (length x) ≡ t → WritesRecord i x (record { answer = 0; len = len }) y
       by_room true e =
           let (answer, size, bytes) = promised true e in
           let (did, left) = done g true e in
-          let same : Next len ≡ Next (length b) = sym next ∙ did in
+          let same : Some len ≡ Some (length b) = sym next ∙ did in
           let sized : len ≡ length b = cc same in
           record {
             answer = sym answer;
@@ -112,16 +111,16 @@ module _ (i : ItemCodes) (typed : Typed i) (x l : List ℕ) (is : bytes_of l ≡
             read_back = λ _. rw (sized, left) is_read;
           }
       by_room false e =
-          let same : Next len ≡ NoRoom = sym next ∙ (done g false e).0 in
+          let same : Some len ≡ None = sym next ∙ (done g false e).0 in
           let z : ◌≡◌ {A = ℕ} 0 1 = cc same in
           absurd (omega arith)
 
-  pub no_room : {r : Writing} {y : List ℕ} → r ≡ NoRoom → WritesAll x 0 l r y → WritesRecord i x (record { answer = 21; len = 0 }) y
+  pub no_room : {r : Option ℕ} {y : List ℕ} → r ≡ None → WritesAll x 0 l r y → WritesRecord i x (record { answer = 21; len = 0 }) y
   no_room {r} {y} none g = by_room (leb (length b) (length x)) refl
     where
       by_room : (t : Bool) → leb (length b) (length x) ≡ t → WritesRecord i x (record { answer = 21; len = 0 }) y
       by_room true e =
-          let same : NoRoom ≡ Next (length b) = sym none ∙ (done g true e).0 in
+          let same : None ≡ Some (length b) = sym none ∙ (done g true e).0 in
           let z : ◌≡◌ {A = ℕ} 0 1 = cc same in
           absurd (omega arith)
       by_room false e =

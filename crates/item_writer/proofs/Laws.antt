@@ -1,7 +1,7 @@
 -- Numbers put one behind the other. Assumes nothing.
 --     one, none                       a number, or none
 --     _then_                          and then more
---     row_none, row_more, row_all     a row, by the turns of a loop
+--     row_none, row_more     a row, by the turns of a loop
 --     at_most                         a row that is not longer
 use Prim.Native.Nat.{ℕ, ◌+◌, ◌<◌, ◌≤◌}
 use mathlib.Core.Path.{◌≡◌, refl, sym, ap, ◌∙◌}
@@ -9,7 +9,7 @@ use mathlib.Core.List.{List, [], ◌++◌, append-nil, append_assoc}
 use native.Mathlib.Numerals.{add-one}
 use native.Mathlib.Omega.{arith}
 use lib.ListN.{length, set, take, get_or, length-set}
-use lib.Seq.{take_all, take-suc, take-suc-set}
+use lib.Seq.{take-suc, take-suc-set}
 use Rattle.number.specs.Encoded.{encoded}
 use Rattle.fields.specs.Bytes.{row_bytes}
 use Rattle.fields.proofs.Rows.{row_bytes_snoc}
@@ -41,14 +41,11 @@ pub ◌then◌ : {x y z : List ℕ} {at r end : ℕ} {l k : List ℕ} {m n : ℕ
 pub at_most : {x y : List ℕ} {at r : ℕ} {l : List ℕ} {m n : ℕ} → Adds x at l m r y → m ≤ n → Adds x at l n r y
 at_most a h = record { bytes = a.bytes; few = omega (arith, a.few); long = a.long }
 
-module _ {A : Type 0} (w : A → List ℕ) (l : List A) (d : A) where
-  pub row_none : (x : List ℕ) (at most : ℕ) → Adds x at (row_bytes w (take 0 l)) most at x
+module _ {A : Type 0} (w : A → List ℕ) (l : List A) where
+  pub row_none : (x : List ℕ) (at most : ℕ) → Adds x at (row_bytes w []) most at x
   unfolding row_bytes
   row_none x at most = none x at most
 
-  pub row_more : (i : ℕ) → i < length l → {x y z : List ℕ} {at place end m k n : ℕ} → Adds x at (row_bytes w (take i l)) m place y → Adds y place (w (get_or l i d)) k end z
-      → m + k ≤ n → Adds x at (row_bytes w (take (i + 1) l)) n end z
-  row_more i h a b e = rw (add-one, take-suc l i d h, row_bytes_snoc) (at_most (a then b) e)
-
-  pub row_all : (i : ℕ) → length l ≡ i → {x y : List ℕ} {at r m : ℕ} → Adds x at (row_bytes w (take i l)) m r y → Adds x at (row_bytes w l) m r y
-  row_all i h a = rw (take_all i l (omega arith)) at a
+  pub row_more : (i : ℕ) (a : A) → i < length l → a ≡ get_or l i a → {x y z : List ℕ} {at place end m k n : ℕ} → Adds x at (row_bytes w (take i l)) m place y
+      → Adds y place (w a) k end z → m + k ≤ n → Adds x at (row_bytes w (take (i + 1) l)) n end z
+  row_more i a h is p q e = rw (add-one, take-suc l i a h, row_bytes_snoc) (at_most (p then rw is at q) e)

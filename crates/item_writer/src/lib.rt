@@ -2,7 +2,6 @@
 // What is written is `written_to` of crate record (specs/Records.antt).
 #![tactic(auto)]
 
-mod buses;
 mod numbers;
 mod paths;
 mod records;
@@ -15,19 +14,14 @@ ghost use Rattle.record.specs.Writing.{item_bytes};
 ghost use Rattle.item_writer.specs.Numbers.{Adds, front_bytes};
 ghost use Rattle.item_writer.specs.Written.{WritesRecord};
 
-use buses::put_buses;
 use codes::ItemCodes;
-use number::Writing;
-use numbers::{put, put_f32, put_f64};
-use paths::put_path;
-use records::{put_scale, put_settings};
-use shapes::put_shape;
+use numbers::{Put, put_row};
 
 // The most numbers that an item has: 21 of its settings, 10 a point, 9 a path point, 16 buses, and 11 more.
 const MOST: usize = 1264;
 
-// The answer, and where it is 0 the length of the record.
-#[derive(Drop)]
+// The answer, and where it is 0 the length of the record: two numbers and no `Result`, since C gets these two in one (`packed` of crate items).
+#[derive(Clone, Copy)]
 pub struct Written {
     pub answer: u8,
     pub len: usize,
@@ -38,14 +32,10 @@ fn put_front(out: &mut [u64], c: ItemCodes) -> usize
     requires { 1258 ≤ length out.old }
     ensures { Adds out.old 0 (front_bytes c) 1258 result out.new }
 {
-    let settings_codes = c.settings;
-    let shape_codes = c.shape;
-    let path_codes = c.path;
-    let values = c.buses;
-    let settings = put_settings(out, 0, settings_codes);
-    let shape = put_shape(out, settings, shape_codes);
-    let path = put_path(out, shape, path_codes);
-    put_buses(out, path, values)
+    let settings = c.settings.put(out, 0);
+    let shape = c.shape.put(out, settings);
+    let path = c.path.put(out, shape);
+    put_row(out, path, &c.buses)
 }
 
 // The numbers of the record.
@@ -53,13 +43,12 @@ fn put_item(out: &mut [u64], c: ItemCodes) -> usize
     requires { 1264 ≤ length out.old }
     ensures { (bytes_of (take result out.new) ≡ item_bytes (kept c)) × (result ≤ 1264) }
 {
-    let scale = c.scale;
     let front = put_front(out, c);
-    let seed = put(out, front, c.seed);
-    let tempo = put_f64(out, seed, c.tempo);
-    let bar = put_f64(out, tempo, c.beats_per_bar);
-    let swing = put_f32(out, bar, c.swing);
-    put_scale(out, swing, scale)
+    let seed = c.seed.put(out, front);
+    let tempo = c.tempo.put(out, seed);
+    let bar = c.beats_per_bar.put(out, tempo);
+    let swing = c.swing.put(out, bar);
+    c.scale.put(out, swing)
 }
 
 // Writes an item's record into the front of `out`: any codes, any buffer.
@@ -73,7 +62,7 @@ pub fn write_record(c: ItemCodes, out: &mut [u8]) -> Written
     let mut numbers = [0u64; MOST];
     let n = put_item(&mut numbers, c);
     match replies::write_numbers(out, 0, &numbers[..n]) {
-        Writing::Next(len) => Written { answer: 0, len },
-        Writing::NoRoom => Written { answer: 21, len: 0 },
+        Some(len) => Written { answer: 0, len },
+        None => Written { answer: 21, len: 0 },
     }
 }

@@ -10,7 +10,7 @@ use mathlib.Core.List.{List, [], ◌∷◌, ◌++◌, append_assoc}
 use native.Mathlib.Omega.{arith}
 use lib.ListN.{length, set, replicate, length-append}
 use Rattle.listlaws.specs.Tables.{padded}
-use Rattle.number.specs.declared.Reading.TheVariants.{Number}
+use Rattle.std.specs.Prelude.{Ok}
 use Rattle.number.specs.Read.{read_at}
 use Rattle.number.proofs.Exact.{below_small, below_keeps}
 use Rattle.fields.specs.Parser.{read, fault, after, Parser, ◌then◌, done, ◌that◌, when, row}
@@ -38,7 +38,7 @@ module _ {A B : Type 0} {p q : Parser A} (f g : A → Parser B) where
 -- ---- numbers
 
 module _ (limit : ℕ) (s : List ℕ) (at v next : ℕ) (e : below limit s at ≡ read v next) where
-  small_there : (v < limit) × (read_at s at ≡ Number v next)
+  small_there : (v < limit) × (read_at s at ≡ Ok (v, next))
   unfolding below
   small_there = below_small limit (read_at s at) v next (parsed_read _ e)
 

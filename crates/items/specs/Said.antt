@@ -1,6 +1,5 @@
 -- What the exported functions answer, and what they leave in the buffer. Assumes nothing.
-use Rattle.std.specs.Prelude.{ℕ, ◌+◌, ◌*◌, ◌≡◌, cond, List, eqb, length, take}
-use Rattle.fields.specs.declared.reader.Place.{Place}
+use Rattle.std.specs.Prelude.{ℕ, ◌+◌, ◌*◌, ◌≡◌, Option, Some, None, List, length, take}
 use Rattle.fields.specs.Parser.{Parsed, Parser, read, fault, ◌then◌}
 use Rattle.codes.specs.declared.ItemCodes.{ItemCodes}
 use Rattle.runs.specs.Records.{settings, scale}
@@ -27,9 +26,10 @@ or_malformed (fault n) = refused malformed
 unfoldable pub handed_in : List ℕ → Outcome ItemCodes
 handed_in s = or_malformed ((item then ended) s 0)
 
--- 0 where `len` bytes were read to their end
-abbrev pub whole_answer : Place → ℕ → ℕ
-whole_answer next len = cond (eqb next.fault 0) (cond (eqb next.at len) 0 malformed) malformed
+-- how the program says it
+abbrev pub handed : Option ItemCodes → Outcome ItemCodes
+handed (Some i) = given i
+handed None = refused malformed
 
 -- ---- an item written into a buffer, or a refusal, which leaves every byte
 

@@ -11,7 +11,7 @@ ghost use Rattle.leg.specs.Root.{Half, IsLeg};
 fn squares(c: f32) -> u64
     ensures { (result ≡ squares_of c) × (result ≤ 4096) }
 {
-    let y = std::num::f32_to_f64_with_nan(extrema::clamp_f32(c, 0.0, 1.0)) * 4096.0;
+    let y = std::num::f32_to_f64_with_nan(extrema::clamp(c, 0.0, 1.0)) * 4096.0;
     saturate::f64_to_u64(y)
 }
 
@@ -27,12 +27,7 @@ pub fn on_paper(c: f32) -> bool
 fn gap(a: f32, b: f32) -> u64
     ensures { (result ≡ apart (squares_of a) (squares_of b)) × (result ≤ 4096) }
 {
-    let i = squares(a);
-    let j = squares(b);
-    if i < j {
-        return j - i;
-    }
-    i - j
+    squares(a).abs_diff(squares(b))
 }
 
 // The whole number nearest to half the root of y: it is one of the `width` numbers from `lo` on, and in 24 turns the only one.
@@ -42,13 +37,14 @@ fn significand(y: u64) -> u64
 {
     let mut lo: u64 = 8388608;
     let mut width: u64 = 8388609;
+    // It halves and counts no index, so a `for` is no plainer.
     while width > 1 {
         let half = width / 2;
         let edge = 2 * (lo + half) - 1;
         if edge * edge <= y {
-            lo = lo + half;
+            lo += half;
         }
-        width = width - half;
+        width -= half;
     }
     lo
 }
@@ -61,7 +57,7 @@ fn root(n: u64) -> f32
     if n == 0 {
         return 0.0;
     }
-    let s: u64 = ((u64::leading_zeros(n) as u64) - 16) / 2;
+    let s = (n.leading_zeros() as u64 - 16) / 2;
     let m = significand(n << (2 * s + 2));
     f32::from_bits(((137 - s) * 8388608 + m) as u32)
 }

@@ -2,16 +2,16 @@
 use Prim.Native.Nat.{ℕ, suc, ◌+◌, ◌-◌, ◌≤◌, ◌<◌}
 use mathlib.Core.Path.{◌≡◌, refl, sym, ap, ◌∙◌}
 use mathlib.Core.Bool.{Bool, true, false, cond}
-use mathlib.Core.List.{List, [], ◌++◌, append-nil}
+use mathlib.Core.List.{List, [], ◌∷◌, ◌++◌, append-nil}
 use native.Mathlib.Omega.{arith}
 use borrow.Author.Tests.{leb-true, lt-ltb}
 use lib.ListN.{length, length-append}
 use Rattle.listlaws.specs.Over.{over}
 use Rattle.listlaws.proofs.Over.{over_none, length_over, over_over}
-use Rattle.number.specs.declared.Writing.{Writing}
-use Rattle.number.specs.declared.Writing.TheVariants.{Next, NoRoom}
+use Rattle.std.specs.Prelude.{Option, Some, None}
+use Rattle.std.specs.Option.{unwrap_or}
 use Rattle.replies.specs.Replies.{bytes_of, fits, fitting, WritesAll}
-use Rattle.outputs.specs.Output.{Calling, given, given_from, output, Runs}
+use Rattle.outputs.specs.Output.{Calling, ill, given, given_from, output, Runs}
 use Rattle.outputs.specs.Turns.{Following, turn_of, given_of, replied, Turns, Finishes}
 use Rattle.outputs.proofs.Fitting.{fitting_room, fitting_if, given_past}
 
@@ -34,7 +34,7 @@ module _ {M S A : Type 0} (C : Calling M S A) where
 module _ {M S A : Type 0} (C : Calling M S A) (run x : List ℕ) (place : ℕ) (l : List ℕ) (at : ℕ) (going : Bool) (s : S) where
   by_fit : (t : Bool) → fits (length x) place (length (bytes_of l)) ≡ t
       → Turns C run (replied C run l at going s) x place
-      (turn_of (cond t (Next (place + length (bytes_of l))) NoRoom) place at going s) (cond t (over x place (bytes_of l)) x)
+      (turn_of (cond t (Some (place + length (bytes_of l))) None) place at going s) (cond t (over x place (bytes_of l)) x)
   unfolding fitting
   by_fit true e =
       record {
@@ -46,7 +46,7 @@ module _ {M S A : Type 0} (C : Calling M S A) (run x : List ℕ) (place : ℕ) (
       }
   by_fit false e = record { written = []; bytes = sym (over_none x place); place_is = omega arith; room = λ h. h; rest = λ most. rw e }
 
-  pub turned : {w : Writing} {y : List ℕ} → WritesAll x place l w y → Turns C run (replied C run l at going s) x place (turn_of w place at going s) y
+  pub turned : {w : Option ℕ} {y : List ℕ} → WritesAll x place l w y → Turns C run (replied C run l at going s) x place (turn_of w place at going s) y
   turned g = rw (g.answer, g.bytes) (by_fit (fits (length x) place (length (bytes_of l))) refl)
 
 -- what is written behind what was written
@@ -159,3 +159,14 @@ module _ {M S A : Type 0} (C : Calling M S A) {run x : List ℕ} {all : ℕ → 
         count = omega (arith, rw same_room at f.place_is, w.place_is, ap length all, length-append w.written after);
         bytes = rw all (rw same_room at f.bytes ∙ joined x 0 w.written after w.bytes w.place_is room);
       }
+
+-- malformed bytes where the state is made
+pub runs_ill : {M S A : Type 0} (C : Calling M S A) {run x : List ℕ} → given_from C run (C.make run 0) ≡ ill → {w : Option ℕ} {y : List ℕ} → WritesAll x 0 (255 ∷ []) w y
+    → {n : ℕ} → n ≡ unwrap_or w 0 → Runs C run x n y
+unfolding output fitting
+runs_ill C {run} {x} b g n_is = rw (n_is, g.answer, g.bytes) (by_fit (fits (length x) 0 (length (bytes_of (255 ∷ [])))) refl)
+  where
+    by_fit : (t : Bool) → fits (length x) 0 (length (bytes_of (255 ∷ []))) ≡ t
+        → Runs C run x (unwrap_or (cond t (Some (0 + length (bytes_of (255 ∷ [])))) None) 0) (cond t (over x 0 (bytes_of (255 ∷ []))) x)
+    by_fit true e = record { count = rw (b, e, append-nil) (omega arith); bytes = rw (b, e, append-nil) }
+    by_fit false e = record { count = rw (b, e); bytes = rw (b, e) (sym (over_none x 0)) }

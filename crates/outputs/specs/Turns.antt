@@ -1,8 +1,6 @@
 -- How the output is made, a call at a time. Assumes nothing.
-use Rattle.std.specs.Prelude.{ℕ, ◌+◌, ◌≤◌, ◌≡◌, Bool, false, cond, List, [], ◌∷◌, ◌++◌, length}
+use Rattle.std.specs.Prelude.{ℕ, ◌+◌, ◌≤◌, ◌≡◌, Bool, false, cond, List, [], ◌∷◌, ◌++◌, length, Option, Some, None}
 use Rattle.listlaws.specs.Over.{over}
-use Rattle.number.specs.declared.Writing.{Writing}
-use Rattle.number.specs.declared.Writing.TheVariants.{Next, NoRoom}
 use Rattle.fields.specs.Parser.{Parsed}
 use Rattle.replies.specs.Replies.{fitting}
 use Rattle.outputs.specs.Output.{Calling, given_by, given}
@@ -15,9 +13,9 @@ pub record Following (S : Type 0) : Type 0 where
   pub state : S
 
 -- where the numbers were written, unless the run ends with them
-abbrev pub turn_of : {S : Type 0} → Writing → ℕ → ℕ → Bool → S → Following S
-turn_of (Next after) place at going s = record { at = at; going = going; place = after; state = s }
-turn_of NoRoom place at going s = record { at = at; going = false; place = place; state = s }
+abbrev pub turn_of : {S : Type 0} → Option ℕ → ℕ → ℕ → Bool → S → Following S
+turn_of (Some after) place at going s = record { at = at; going = going; place = after; state = s }
+turn_of None place at going s = record { at = at; going = false; place = place; state = s }
 
 module _ {M S A : Type 0} (C : Calling M S A) where
   -- what a call as it was read gives, and those behind it

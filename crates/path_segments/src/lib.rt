@@ -29,7 +29,7 @@ pub struct PathSegment {
 }
 
 // The two outputs.
-#[derive(Drop)]
+#[derive(Clone, Copy)]
 pub struct Xy {
     pub x: f32,
     pub y: f32,

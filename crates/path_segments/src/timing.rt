@@ -23,11 +23,9 @@ fn total(legs: &[f32; MAX_POINTS], n: usize) -> f32
     requires { n ≤ 64 }
     ensures { result ≡ sum_to legs.now n }
 {
-    let mut sum = 0.0f32;
-    let mut j = 0;
-    while j < n {
-        sum += legs[j];
-        j += 1;
+    let mut sum = 0.0;
+    for leg in &legs[..n] {
+        sum += *leg;
     }
     sum
 }
@@ -52,13 +50,11 @@ pub fn times(legs: &[f32; MAX_POINTS], n: usize) -> [f32; MAX_TIMES]
     ensures { result ≡ times_of legs.now n }
 {
     let whole = total(legs, n);
-    let mut out = [0.0f32; MAX_TIMES];
-    let mut sum = 0.0f32;
-    let mut j = 0;
-    while j < n {
+    let mut out = [0.0; MAX_TIMES];
+    let mut sum = 0.0;
+    for (j, leg) in legs[..n].iter().enumerate() {
         out[j] = share(sum, whole, j, n);
-        sum += legs[j];
-        j += 1;
+        sum += *leg;
     }
     out[n] = share(sum, whole, n, n);
     out

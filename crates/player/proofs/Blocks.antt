@@ -1,4 +1,5 @@
 -- What playing a block asks of what it calls, and what it gives of their equations. Assumes nothing.
+use Rattle.std.specs.Prelude.{None, Option, Some}
 use Prim.Native.Nat.{ℕ, ◌+◌, ◌^◌, ◌≤◌, ◌<◌}
 use mathlib.Core.Path.{◌≡◌, refl, sym, ap, ◌∙◌}
 use mathlib.Core.Bool.{Bool, true, false, false≢true}
@@ -8,16 +9,12 @@ use lib.Ieee.{Float}
 use Rattle.settings.specs.declared.record.Settings.{Settings}
 use Rattle.settings.specs.declared.record.Transport.{Transport}
 use Rattle.codes.specs.declared.TransportCodes.{TransportCodes}
-use Rattle.settings.specs.declared.record.TransportCode.{TransportCode}
-use Rattle.settings.specs.declared.record.TransportCode.TheVariants as TransportCode
 use Rattle.settings.specs.Codes.{transport_at}
-use Rattle.position.specs.declared.place.LoopPoint.{LoopPoint}
 use Rattle.position.specs.Rest.{finished_of}
 use Rattle.clock.specs.declared.ready.Prepared.{Prepared}
 use Rattle.clock.specs.Ready.{prepared_of}
 use Rattle.reach.specs.Bounds.{TransportIn}
 use Rattle.voice.specs.Curve.{Curve, curve_by}
-use Rattle.bank.specs.declared.parts.Pending.{Pending}
 use Rattle.bank.specs.declared.stretch.Rendered.{Rendered}
 use Rattle.bank.specs.Render.{Stretch}
 use Rattle.bank.specs.Parts.{PlaysParts}
@@ -70,7 +67,7 @@ module _ (p : Player) (v : Valid p) (c : TransportCodes) (frames : ℕ) (restart
     facts = block_accepted p.deck.played c frames restart (length x) (length y) (sym asked ∙ e)
 
     -- an answer of 0 goes with no unknown code, so that there is no such block
-    pub block_unknown : transport_at c ≡ TransportCode.Unknown → Plays p c frames restart x y (refused_with a p.deck) x y
+    pub block_unknown : transport_at c ≡ None → Plays p c frames restart x y (refused_with a p.deck) x y
     block_unknown unknown =
         record {
           answer_is = put;
@@ -88,7 +85,7 @@ module _ (p : Player) (v : Valid p) (c : TransportCodes) (frames : ℕ) (restart
 
     -- ---- a block that is played
 
-    module _ (t : Transport) (known : transport_at c ≡ TransportCode.Known t) where
+    module _ (t : Transport) (known : transport_at c ≡ Some t) where
       abbrev lfo : Lfo
       lfo = (state_of p).lfo
 
@@ -108,7 +105,7 @@ module _ (p : Player) (v : Valid p) (c : TransportCodes) (frames : ℕ) (restart
       pub count_small : p.deck.clock.n + frames < 2 ^ 64
       count_small = blocks.count_small lfo t p.deck.played frames v.lfo_in transport_within facts.short within_life
 
-      module _ (n : ℕ) (from : LoopPoint) (points_are : n ≡ points_of s.kind p.page.shape.len p.page.path.len)
+      module _ (n : ℕ) (from : Option Float) (points_are : n ≡ points_of s.kind p.page.shape.len p.page.path.len)
           (from_is : from ≡ loop_of s.kind p.page.shape.loopback p.page.lists.xs) where
         -- the curve that the code lends
         abbrev pub lent : Curve
@@ -125,7 +122,7 @@ module _ (p : Player) (v : Valid p) (c : TransportCodes) (frames : ℕ) (restart
               (blocks.slot_stretch lfo t p.deck.played frames v.lfo_in transport_within facts.short within_life p.deck.voice v.anchor_in p.deck.kept x y
               v.kept_for facts.room_x facts.room_y)
 
-          module _ (at : Pending) (pending : at ≡ pending_of restart) (r : Rendered) (done : Bool) (x' y' : List Float)
+          module _ (at : Option ℕ) (pending : at ≡ pending_of restart) (r : Rendered) (done : Bool) (x' y' : List Float)
               (plays : PlaysParts s lent k.block p.deck.voice at frames x y r x' y') (ends : done ≡ finished_of s.kind s.mode s.direction from r.count) where
             parts : PlaysParts s q ready.block p.deck.voice at frames x y r x' y'
             parts = rw (lent_is, made) at plays

@@ -1,4 +1,5 @@
 -- What making a player gives, of the equations of what it calls. Assumes nothing.
+use Rattle.std.specs.Prelude.{None, Option, Some}
 use Prim.Native.Nat.{ℕ, ◌^◌, ◌<◌}
 use mathlib.Core.Path.{◌≡◌, refl, sym, subst, ◌∙◌}
 use mathlib.Core.Bool.{Bool, true, false, cond}
@@ -7,8 +8,6 @@ use lib.Dec.{eqb, lit<}
 use lib.Ieee.{is_nan, of_bits}
 use Rattle.settings.specs.declared.record.Settings.{Settings}
 use Rattle.codes.specs.declared.SettingsCodes.{SettingsCodes}
-use Rattle.settings.specs.declared.record.SettingsCode.{SettingsCode}
-use Rattle.settings.specs.declared.record.SettingsCode.TheVariants as SettingsCode
 use Rattle.settings.specs.Codes.{settings_at}
 use Rattle.settings.specs.Records.{default_settings}
 use Rattle.reach.specs.Bounds.{SettingsIn}
@@ -29,11 +28,11 @@ default_in = record { rate_number = tt; phase_number = tt; grid_in = lit< tt }
 
 module _ (c : SettingsCodes) (seed : ℕ) where
   -- a player of the settings that it is made with
-  made_is : (b : Bool) (k : SettingsCode)
+  made_is : (b : Bool) (k : Option Settings)
       → new_state (cond b (by_settings default_settings k (λ s. s)) default_settings) seed
       ≡ cond b (by_settings (no_player seed) k (λ s. new_state s seed)) (no_player seed)
-  made_is true (SettingsCode.Known s) = refl
-  made_is true SettingsCode.Unknown = refl
+  made_is true (Some s) = refl
+  made_is true None = refl
   made_is false k = refl
 
   first_is : state_of (record { page = new_page (first_settings (first_no (settings_questions c)) c); deck = new_deck seed }) ≡ made c seed
@@ -45,10 +44,10 @@ module _ (c : SettingsCodes) (seed : ℕ) where
     unfolding first_settings
     first_in = go (eqb a 0) refl (settings_at c) refl
       where
-        go : (b : Bool) → eqb a 0 ≡ b → (k : SettingsCode) → settings_at c ≡ k
+        go : (b : Bool) → eqb a 0 ≡ b → (k : Option Settings) → settings_at c ≡ k
             → let first = cond b (by_settings default_settings k (λ s. s)) default_settings in first.grid_x < 2 ^ 16 → SettingsIn first
-        go true e (SettingsCode.Known s) known g = settings_in c (sym asked ∙ eqb-true a 0 e) s known g
-        go true e SettingsCode.Unknown known g = default_in
+        go true e (Some s) known g = settings_in c (sym asked ∙ eqb-true a 0 e) s known g
+        go true e None known g = default_in
         go false e k known g = default_in
 
     pub makes_player : (s : Settings) → s.grid_x < 2 ^ 16 → s ≡ first_settings a c → (page : Page) (deck : Deck) → page ≡ new_page s → deck ≡ new_deck seed

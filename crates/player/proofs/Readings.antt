@@ -1,11 +1,11 @@
 -- What reading the phase gives, of the equations of what it calls. Assumes nothing.
+use Rattle.std.specs.Prelude.{None, Some}
 use Prim.Native.Nat.{ℕ}
 use mathlib.Core.Path.{◌≡◌, refl, sym, ap, ◌∙◌}
 use mathlib.Core.List.{List, [], ◌∷◌}
 use lib.Ieee.{Float}
 use Rattle.settings.specs.declared.record.Transport.{Transport}
 use Rattle.codes.specs.declared.TransportCodes.{TransportCodes}
-use Rattle.settings.specs.declared.record.TransportCode.TheVariants as TransportCode
 use Rattle.settings.specs.Codes.{transport_at}
 use Rattle.clock.specs.Ready.{phase_read}
 use Rattle.questions.specs.Questions.{first_no, phase_questions}
@@ -28,11 +28,11 @@ module _ (p : State) (c : TransportCodes) (a : ℕ) (asked : a ≡ first_no (pha
   phase_refused e = rw (refuses_it p (phase c) a put e) (ap refusal put)
 
   -- an answer of 0 goes with no unknown code, so that there is no such call
-  pub phase_unknown : a ≡ 0 → transport_at c ≡ TransportCode.Unknown → refusal a ≡ phase_answer p c
+  pub phase_unknown : a ≡ 0 → transport_at c ≡ None → refusal a ≡ phase_answer p c
   unfolding phase_answer
   phase_unknown e u = rw (accepts_it p (phase c) a put e, u) (ap refusal put)
 
-  pub phase_at_lem : a ≡ 0 → (t : Transport) → transport_at c ≡ TransportCode.Known t → (x : Float) → x ≡ phase_read p.lfo.settings p.lfo.clock p.voice.anchor t
+  pub phase_at_lem : a ≡ 0 → (t : Transport) → transport_at c ≡ Some t → (x : Float) → x ≡ phase_read p.lfo.settings p.lfo.clock p.voice.anchor t
       → success (x ∷ []) ≡ phase_answer p c
   unfolding phase_answer phase_at
   phase_at_lem e t known x is = let zero : answer p (phase c) ≡ 0 = sym put ∙ e in rw (zero, known, is)

@@ -1,4 +1,5 @@
 -- What each setting call gives, of the equations of what it calls. Assumes nothing.
+use Rattle.std.specs.Prelude.{None, Option, Some}
 use Prim.Native.Nat.{ℕ, suc, ◌^◌, ◌<◌, min}
 use mathlib.Core.Path.{◌≡◌, refl, sym, ◌∙◌}
 use mathlib.Core.Bool.{Bool, true, false, cond}
@@ -11,15 +12,12 @@ use lib.ListN.{get_or, set, take, drop}
 use lib.Seq.{set_split}
 use lib.Ieee.{Float, nan, eq}
 use lib.Ieee.Scale.{finite}
-use Rattle.shape.specs.declared.Loopback.{Loopback}
-use Rattle.shape.specs.declared.Loopback.TheVariants as Loopback
 use Rattle.shape.specs.declared.Shape.{Shape}
 use Rattle.shape.specs.Shapes.{within, shape_of}
 use Rattle.shape.proofs.Accepted.{accepted_x}
 use Rattle.path.specs.declared.Path.{Path}
 use Rattle.settings.specs.declared.record.Settings.{Settings}
 use Rattle.codes.specs.declared.SettingsCodes.{SettingsCodes}
-use Rattle.settings.specs.declared.record.SettingsCode.TheVariants as SettingsCode
 use Rattle.settings.specs.Codes.{settings_at}
 use Rattle.settings.specs.Records.{clamped_settings}
 use Rattle.slot.specs.Moved.{LoopbackIn}
@@ -56,10 +54,10 @@ module _ (p : Player) (v : Valid p) (c : SettingsCodes) (a : ℕ) (asked : a ≡
   settings_refused e = refused p (settings c) a settings_put e v
 
   -- an answer of 0 goes with no unknown code, so that there is no such call
-  pub settings_unknown : a ≡ 0 → settings_at c ≡ SettingsCode.Unknown → Changes p (settings c) (record { answer = a; player = p })
+  pub settings_unknown : a ≡ 0 → settings_at c ≡ None → Changes p (settings c) (record { answer = a; player = p })
   settings_unknown e u = changed p (settings c) a settings_put e p (unfold accepted in rw u) v
 
-  pub settings_set : a ≡ 0 → (s stored : Settings) → settings_at c ≡ SettingsCode.Known s → stored ≡ clamped_settings s → stored.grid_x < 2 ^ 16
+  pub settings_set : a ≡ 0 → (s stored : Settings) → settings_at c ≡ Some s → stored ≡ clamped_settings s → stored.grid_x < 2 ^ 16
       → (page : Page) → page ≡ page_of stored p.page.shape p.page.path p.page.buses → (r : Player) → r ≡ edited_player p page
       → Changes p (settings c) (record { answer = a; player = r })
   settings_set e s stored known is grid page paged r made =
@@ -72,12 +70,12 @@ module _ (p : Player) (v : Valid p) (c : SettingsCodes) (a : ℕ) (asked : a ≡
 -- ---- a shape
 
 -- a loopback point that is kept is one of the points
-within_in : (l : Loopback) (n : ℕ) → LoopbackIn (within l n) n
+within_in : (l : Option ℕ) (n : ℕ) → LoopbackIn (within l n) n
 unfolding within
-within_in Loopback.None n = tt
-within_in (Loopback.At i) n = go (ltb i n) refl
+within_in None n = tt
+within_in (Some i) n = go (ltb i n) refl
   where
-    go : (b : Bool) → ltb i n ≡ b → LoopbackIn (cond b (Loopback.At i) Loopback.None) n
+    go : (b : Bool) → ltb i n ≡ b → LoopbackIn (cond b (Some i) None) n
     go true e = ltb-true i n e
     go false e = tt
 

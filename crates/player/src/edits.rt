@@ -4,9 +4,9 @@ ghost use Rattle.calls.specs.Calls as call;
 ghost use Rattle.player.specs.Player.{edited_player, Valid};
 ghost use Rattle.player.specs.Promises.{Changes};
 
-use super::{Changed, Player};
+use super::{Changed, Deck, Player};
 use codes::{PathCodes, SettingsCodes, ShapeCodes};
-use settings::{Settings, SettingsCode};
+use settings::Settings;
 use slot::Page;
 use voice::Kept;
 
@@ -14,9 +14,10 @@ use voice::Kept;
 fn edited(p: Player, page: Page) -> Player
     ensures { result ≡ edited_player p page }
 {
-    let mut deck = p.deck;
-    let kept = Kept::void();
-    deck.kept = kept;
+    let deck = Deck {
+        kept: Kept::void(),
+        ..p.deck
+    };
     Player { page, deck }
 }
 
@@ -29,15 +30,11 @@ pub fn set_settings(p: Player, c: SettingsCodes) -> Changed
     if answer != 0 {
         return Changed { answer, player: p };
     }
-    let SettingsCode::Known(s) = Settings::from_codes(c) else {
+    let Some(s) = Settings::from_codes(c) else {
         return Changed { answer, player: p };
     };
-    let settings = s.clamped();
     let g = p.page;
-    let shape = g.shape;
-    let path = g.path;
-    let buses = g.buses;
-    let player = edited(p, Page::of(settings, shape, path, buses));
+    let player = edited(p, Page::of(s.clamped(), g.shape, g.path, g.buses));
     Changed { answer, player }
 }
 
@@ -52,10 +49,7 @@ pub fn set_shape(p: Player, c: ShapeCodes) -> Changed
     }
     let shape = curves::shape_of(c);
     let g = p.page;
-    let settings = g.settings;
-    let path = g.path;
-    let buses = g.buses;
-    let player = edited(p, Page::of(settings, shape, path, buses));
+    let player = edited(p, Page::of(g.settings, shape, g.path, g.buses));
     Changed { answer, player }
 }
 
@@ -70,10 +64,7 @@ pub fn set_path(p: Player, c: PathCodes) -> Changed
     }
     let path = curves::path_of(c);
     let g = p.page;
-    let settings = g.settings;
-    let shape = g.shape;
-    let buses = g.buses;
-    let player = edited(p, Page::of(settings, shape, path, buses));
+    let player = edited(p, Page::of(g.settings, g.shape, path, g.buses));
     Changed { answer, player }
 }
 
@@ -88,14 +79,11 @@ pub fn set_bus(p: Player, bus: u64, value: f32) -> Changed
     }
     let k = bus as usize;
     let g = p.page;
-    let settings = g.settings;
-    let shape = g.shape;
-    let path = g.path;
     let mut buses = g.buses;
     if buses[k] == value {
         return Changed { answer, player: p };
     }
     buses[k] = value;
-    let player = edited(p, Page::of(settings, shape, path, buses));
+    let player = edited(p, Page::of(g.settings, g.shape, g.path, buses));
     Changed { answer, player }
 }

@@ -34,21 +34,21 @@ pub struct Player {
 }
 
 // What making a player gives. Where the answer is not 0 the player has the default settings and is not to be used.
-#[derive(Drop)]
+#[derive(Clone, Copy)]
 pub struct Made {
     pub answer: u8,
     pub player: Player,
 }
 
 // What a call that sets something gives.
-#[derive(Drop)]
+#[derive(Clone, Copy)]
 pub struct Changed {
     pub answer: u8,
     pub player: Player,
 }
 
 // What playing a block gives: the player's deck after it, and whether a One-shot has reached its end in it.
-#[derive(Drop)]
+#[derive(Clone, Copy)]
 pub struct Played {
     pub answer: u8,
     pub finished: bool,
@@ -56,7 +56,7 @@ pub struct Played {
 }
 
 // The number of the question that refused a read of the phase, or the phase.
-#[derive(Drop)]
+#[derive(Clone, Copy)]
 pub enum PhaseResult {
     Refused(u8),
     At(f32),

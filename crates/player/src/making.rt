@@ -6,16 +6,17 @@ ghost use Rattle.player.specs.Promises.{first_settings, Makes};
 use super::{Deck, Made, Player};
 use clock::Clock;
 use codes::SettingsCodes;
-use settings::{Settings, SettingsCode};
+use settings::Settings;
 use slot::Page;
 use voice::{Kept, Voice};
 
 // The settings that a player is made with: those of the codes where they are accepted, else the default ones.
+#[tactic(auto, unfolding(crate::specs::Promises::first_settings))]
 fn first_settings(answer: u8, c: SettingsCodes) -> Settings
     ensures { result ≡ first_settings answer c }
 {
     if answer == 0 {
-        let SettingsCode::Known(s) = Settings::from_codes(c) else {
+        let Some(s) = Settings::from_codes(c) else {
             return Settings::default();
         };
         return s;
@@ -27,13 +28,10 @@ fn first_settings(answer: u8, c: SettingsCodes) -> Settings
 fn new_deck(seed: u64) -> Deck
     ensures { result ≡ new_deck seed }
 {
-    let clock = Clock::new();
-    let voice = Voice::new(seed);
-    let kept = Kept::void();
     Deck {
-        clock,
-        voice,
-        kept,
+        clock: Clock::new(),
+        voice: Voice::new(seed),
+        kept: Kept::void(),
         played: 0,
     }
 }
@@ -43,10 +41,11 @@ pub fn make(c: SettingsCodes, seed: u64) -> Made
     ensures { Makes c seed result }
 {
     let answer = questions::settings_answer(c);
-    let page = Page::new(first_settings(answer, c));
-    let deck = new_deck(seed);
     Made {
         answer,
-        player: Player { page, deck },
+        player: Player {
+            page: Page::new(first_settings(answer, c)),
+            deck: new_deck(seed),
+        },
     }
 }

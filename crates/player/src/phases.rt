@@ -5,7 +5,7 @@ ghost use Rattle.player.specs.Readings.{phase_result_answer, phase_answer};
 
 use super::{PhaseResult, Player};
 use codes::TransportCodes;
-use settings::{Transport, TransportCode};
+use settings::Transport;
 
 // Where the voice is in its cycle, 0 up to 1, at the next sample to play; `t` is the transport at that sample. No player changes.
 pub fn phase(p: Player, t: TransportCodes) -> PhaseResult
@@ -15,12 +15,13 @@ pub fn phase(p: Player, t: TransportCodes) -> PhaseResult
     if answer != 0 {
         return PhaseResult::Refused(answer);
     }
-    let TransportCode::Known(transport) = Transport::from_codes(t) else {
+    let Some(transport) = Transport::from_codes(t) else {
         return PhaseResult::Refused(answer);
     };
-    let settings = p.page.settings;
-    let clock = p.deck.clock;
-    let voice = p.deck.voice;
-    let anchor = voice.anchor;
-    PhaseResult::At(clock::phase(settings, clock, anchor, transport))
+    PhaseResult::At(clock::phase(
+        p.page.settings,
+        p.deck.clock,
+        p.deck.voice.anchor,
+        transport,
+    ))
 }

@@ -5,18 +5,19 @@ ghost use Rattle.player.specs.Player.{Valid};
 ghost use Rattle.player.specs.Promises.{refused_with, Plays};
 
 use super::{Deck, Played, Player};
-use bank::Pending;
 use codes::{RestartCodes, TransportCodes};
-use settings::{Transport, TransportCode};
+use settings::Transport;
+use voice::CurveView;
 
 // The restart that a block carries, if any.
-fn pending(c: RestartCodes) -> Pending
+#[tactic(auto, unfolding(calls::specs::Blocks::pending_of))]
+fn pending(c: RestartCodes) -> Option<usize>
     ensures { result ≡ pending_of c }
 {
     if c.code == 1 {
-        return Pending::At(c.frame as usize);
+        return Some(c.frame as usize);
     }
-    Pending::None
+    None
 }
 
 // What a block that is refused gives: the deck that it was handed.
@@ -48,51 +49,45 @@ pub fn play(
     if answer != 0 {
         return refused(answer, deck);
     }
-    let TransportCode::Known(transport) = Transport::from_codes(t) else {
+    let Some(transport) = Transport::from_codes(t) else {
         return refused(answer, deck);
     };
-    let at = pending(restart);
     let settings = p.page.settings;
-    let kind = settings.kind;
-    let mode = settings.mode;
-    let direction = settings.direction;
     let lists = p.page.lists;
     let times = p.page.path.times;
-    let shape = p.page.shape;
-    let loopback = shape.loopback;
-    let from = slot::loop_point(kind, loopback, &lists.xs);
-    let n = slot::point_count(kind, shape.len, p.page.path.len);
-    let clock = deck.clock;
-    let v = deck.voice;
-    let kept = deck.kept;
-    let prepared = clock::prepare(settings, clock, transport, frames);
-    let block = prepared.block;
+    let curve = CurveView {
+        xs: &lists.xs,
+        ys: &lists.ys,
+        es: &lists.es,
+        steps: &lists.steps,
+        n: slot::point_count(settings.kind, p.page.shape.len, p.page.path.len),
+        times: &times,
+        closed: p.page.path.closed,
+        from: slot::loop_point(settings.kind, p.page.shape.loopback, &lists.xs),
+    };
+    let prepared = clock::prepare(settings, deck.clock, transport, frames);
     let r = bank::render_parts(
         settings,
-        block,
-        &lists.xs,
-        &lists.ys,
-        &lists.es,
-        &lists.steps,
-        n,
-        &times,
-        p.page.path.closed,
-        from,
-        v,
-        kept,
-        at,
+        prepared.block,
+        curve,
+        deck.voice,
+        deck.kept,
+        pending(restart),
         frames as usize,
         x,
         y,
     );
-    let next = prepared.clock;
-    let voice = r.voice;
-    let found = r.kept;
-    deck.clock = next;
-    deck.voice = voice;
-    deck.kept = found;
+    deck.clock = prepared.clock;
+    deck.voice = r.voice;
+    deck.kept = r.kept;
     deck.played = deck.played + frames;
-    let finished = position::finished(kind, mode, direction, from, r.count);
+    let finished = position::finished(
+        settings.kind,
+        settings.mode,
+        settings.direction,
+        curve.from,
+        r.count,
+    );
     Played {
         answer: 0,
         finished,

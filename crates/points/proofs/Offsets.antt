@@ -1,4 +1,5 @@
 -- A finite modulation moves a finite coordinate to a number, and places it in 0 to 1; a bus above the last moves nothing. Assumes nothing.
+use Rattle.std.specs.Prelude.{Option, None, Some}
 use mathlib.Core.Path.{◌≡◌, sym, ◌∙◌, subst}
 use mathlib.Core.Bool.{Bool, true, false, cond}
 use mathlib.Core.List.{List}
@@ -14,7 +15,6 @@ use lib.Ieee.Scale.{finite, round_same}
 use Rattle.floatlaws.specs.Numbers.{f32_0}
 use Rattle.floatlaws.proofs.NoNan.{Number, mul_number, add_number}
 use Rattle.points.specs.declared.PointMod.{PointMod}
-use Rattle.points.specs.declared.PointMod.TheVariants.{None, Bus}
 use Rattle.points.specs.Modulation.{FiniteMod, FiniteBuses, bus_value, offset_of, moved_of, placed_of}
 use Rattle.points.specs.Laws.{OffsetAbove, PlacedIn}
 use Rattle.points.proofs.Floats.{unit_clamped}
@@ -29,12 +29,12 @@ bus_finite buses bus h = go (ltb bus 16) (λ (t : T (ltb bus 16)). h bus (ltb→
     go true k = k tt
     go false k = unfold of_bits in tt
 
-offset_number : (m : PointMod) (buses : List Float) → FiniteMod m → FiniteBuses buses → Number (offset_of m buses)
+offset_number : (m : Option PointMod) (buses : List Float) → FiniteMod m → FiniteBuses buses → Number (offset_of m buses)
 unfolding offset_of
 offset_number None buses h k = unfold is_nan of_bits in tt
-offset_number (Bus bus depth) buses h k = mul_number binary32 (bus_value buses bus) depth (bus_finite buses bus k) h
+offset_number (Some m) buses h k = mul_number binary32 (bus_value buses m.bus) m.depth (bus_finite buses m.bus k) h
 
-pub moved_number : (x : Float) (m : PointMod) (buses : List Float) → T (finite x) → FiniteMod m → FiniteBuses buses → Number (moved_of x m buses)
+pub moved_number : (x : Float) (m : Option PointMod) (buses : List Float) → T (finite x) → FiniteMod m → FiniteBuses buses → Number (moved_of x m buses)
 moved_number x m buses f h k = add_number binary32 x (offset_of m buses) f (offset_number m buses h k)
 
 pub placed_between : PlacedIn

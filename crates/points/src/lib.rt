@@ -2,7 +2,8 @@
 // coordinate, and the search among ascending floats.
 #![tactic(auto)]
 
-ghost use Rattle.std.specs.Prelude.{◌≡◌, ◌≤◌, ◌<◌, min, length};
+ghost use Rattle.std.specs.Prelude.{◌≡◌, ℕ, ◌≤◌, ◌<◌, min, length};
+ghost use Rattle.listlaws.specs.Tables.{tabulate, padded};
 ghost use Rattle.points.specs.Arrays.{partition_point};
 ghost use Rattle.points.specs.Modulation.{bus_value, offset_of, moved_of, placed_of};
 
@@ -14,13 +15,13 @@ pub const POINT_BUSES: usize = 16;
 
 // A point-modulation input on one coordinate of a point: the coordinate moves by `depth` times the value of bus `bus`.
 #[derive(Clone, Copy)]
-pub enum PointMod {
-    None,
-    Bus { bus: u8, depth: f32 },
+pub struct PointMod {
+    pub bus: u8,
+    pub depth: f32,
 }
 
 // Where the points of a shape or a path are: the first as many as there are points; the rest is 0.
-#[derive(Drop)]
+#[derive(Clone, Copy)]
 pub struct Coordinates {
     pub xs: [f32; MAX_POINTS],
     pub ys: [f32; MAX_POINTS],
@@ -30,11 +31,20 @@ pub struct Coordinates {
 pub fn kept(count: usize) -> usize
     ensures { result ≡ min count 64 }
 {
-    if count < MAX_POINTS {
-        count
-    } else {
-        MAX_POINTS
+    count.min(MAX_POINTS)
+}
+
+// An array that begins with `at(0)`, .. `at(n - 1)`, and holds `rest` after them.
+pub fn filled<T: Copy, F: Fn(usize) -> T>(n: usize, rest: T, at: F) -> [T; MAX_POINTS]
+    requires fits { n ≤ 64 }
+    requires callable { (i : ℕ) → i < n → F.pre at i }
+    ensures { (f : ℕ → T) → ((i : ℕ) (r : T) → i < n → F.post at i r → r ≡ f i) → result ≡ padded 64 rest (tabulate f n) }
+{
+    let mut out = [rest; MAX_POINTS];
+    for i in 0..n {
+        out[i] = at(i);
     }
+    out
 }
 
 // The value of bus `bus`, and 0 where there is no such bus.
@@ -46,41 +56,39 @@ fn bus_value(buses: &[f32; POINT_BUSES], bus: u8) -> f32
 }
 
 // How far `m` moves a coordinate, given the bus values. Of a bus that is not there it is 0 × depth, a zero of either sign.
-pub fn offset(m: PointMod, buses: &[f32; POINT_BUSES]) -> f32
+pub fn offset(m: Option<PointMod>, buses: &[f32; POINT_BUSES]) -> f32
     ensures { result ≡ offset_of m buses.now }
 {
     match m {
-        PointMod::None => 0.0,
-        PointMod::Bus { bus, depth } => bus_value(buses, bus) * depth,
+        Some(m) => bus_value(buses, m.bus) * m.depth,
+        None => 0.0,
     }
 }
 
 // A coordinate moved by its bus.
-pub fn moved(at: f32, m: PointMod, buses: &[f32; POINT_BUSES]) -> f32
+pub fn moved(at: f32, m: Option<PointMod>, buses: &[f32; POINT_BUSES]) -> f32
     ensures { result ≡ moved_of at m buses.now }
 {
     at + offset(m, buses)
 }
 
 // A coordinate moved by its bus, inside the unit square.
-pub fn placed(at: f32, m: PointMod, buses: &[f32; POINT_BUSES]) -> f32
+pub fn placed(at: f32, m: Option<PointMod>, buses: &[f32; POINT_BUSES]) -> f32
     ensures { result ≡ placed_of at m buses.now }
 {
-    extrema::clamp_f32(moved(at, m, buses), 0.0, 1.0)
+    extrema::clamp(moved(at, m, buses), 0.0, 1.0)
 }
 
 // How many of the first `n` of `xs` stand up to the last one at or before `x`. On ascending `xs` this is Rust's
-// `partition_point(|p| p <= x)`.
+// `partition_point(|p| p <= x)`, for which document 01 asks for a loop from the last place down.
 pub fn partition_point(xs: &[f32], n: usize, x: f32) -> usize
     requires { n ≤ length xs.now }
     ensures { (result ≡ partition_point xs.now n x) × (result ≤ n) }
 {
-    let mut i = n;
-    while i > 0 {
-        if xs[i - 1] <= x {
-            return i;
+    for i in (0..n).rev() {
+        if xs[i] <= x {
+            return i + 1;
         }
-        i -= 1;
     }
     0
 }

@@ -1,4 +1,5 @@
 -- A One-shot's position loops where a loopback is in force, and with none in force it is at rest exactly where it has finished. Assumes nothing.
+use Rattle.std.specs.Prelude.{None, Option, Some}
 use mathlib.Core.Path.{◌≡◌, refl, sym, ap, ◌∙◌, subst}
 use mathlib.Core.Logic.{inl, inr}
 use mathlib.Core.Bool.{Bool, true, false, not, ◌&&◌, cond}
@@ -20,8 +21,6 @@ use Rattle.settings.specs.declared.choices.LfoType.TheVariants.{Drawn, Path, Lor
 use Rattle.settings.specs.declared.choices.Mode.TheVariants.{Free, Restart, OneShot}
 use Rattle.settings.specs.declared.choices.Direction.{Direction}
 use Rattle.settings.specs.declared.choices.Direction.TheVariants.{Forward, Reverse, PingPong}
-use Rattle.position.specs.declared.place.LoopPoint.{LoopPoint}
-use Rattle.position.specs.declared.place.LoopPoint.TheVariants.{None, At}
 use Rattle.position.specs.Position.{loops, looped, forward_once, forward_loop, reverse_once, reverse_loop, back_once, ping_pong_once, ping_pong_loop, position_of}
 use Rattle.position.specs.Rest.{loops_back, loopback_in_force, rest_from, finished_from, finished_of}
 use Rattle.position.specs.Laws.{PositionLoops, Moves, ReadsAt, rest_at, FinishedRests, UnfinishedMoves}
@@ -58,13 +57,13 @@ below_one c h =
 
 -- ---- position loops where a loopback is in force
 
-loops_from_one : (d : Direction) (c l : Float) → T (le f64_1 c) → position_of OneShot d c (At l) ≡ cond (loops d l) (looped d c l) (position_of OneShot d c None)
+loops_from_one : (d : Direction) (c l : Float) → T (le f64_1 c) → position_of OneShot d c (Some l) ≡ cond (loops d l) (looped d c l) (position_of OneShot d c None)
 unfolding forward_once forward_loop reverse_once reverse_loop ping_pong_once ping_pong_loop
 loops_from_one Forward c l h = rw (from_one c h, count_stays c h)
 loops_from_one Reverse c l h = rw (from_one c h, count_stays c h)
 loops_from_one PingPong c l h = rw (from_one c h, count_stays c h)
 
-plain_below_one : (d : Direction) (c : Float) (l : LoopPoint) → T (not (le f64_1 c)) → position_of OneShot d c l ≡ position_of OneShot d c None
+plain_below_one : (d : Direction) (c : Float) (l : Option Float) → T (not (le f64_1 c)) → position_of OneShot d c l ≡ position_of OneShot d c None
 unfolding forward_once reverse_once ping_pong_once
 plain_below_one Forward c l h = rw (below_one c h)
 plain_below_one Reverse c l h = rw (below_one c h)
@@ -75,16 +74,16 @@ unfolding loopback_in_force
 position_loops d c l =
     elim (decide (le f64_1 c)) [
       | inl h ↦ loops_from_one d c l h ∙ rw (is_true (le f64_1 c) h)
-      | inr h ↦ plain_below_one d c (At l) h ∙ rw (is_false (le f64_1 c) h)
+      | inr h ↦ plain_below_one d c (Some l) h ∙ rw (is_false (le f64_1 c) h)
     ]
 
 -- with none in force, position is that without a loopback
-no_loop : (d : Direction) (c : Float) (l : LoopPoint) → loops_back d l ≡ false → position_of OneShot d c l ≡ position_of OneShot d c None
+no_loop : (d : Direction) (c : Float) (l : Option Float) → loops_back d l ≡ false → position_of OneShot d c l ≡ position_of OneShot d c None
 no_loop d c None h = refl
-no_loop d c (At l) h =
+no_loop d c (Some l) h =
     elim (decide (le f64_1 c)) [
       | inl k ↦ loops_from_one d c l k ∙ rw h
-      | inr k ↦ plain_below_one d c (At l) k
+      | inr k ↦ plain_below_one d c (Some l) k
     ]
 
 -- ---- where finished is said
@@ -102,7 +101,7 @@ rests PingPong c h =
     rw (from_one c k, count_stays c k, le_not_lt c f64_2 h)
 
 -- of a type that reads its position: whether it loops, and from where on it rests
-in_force : (kind : LfoType) (d : Direction) (l : LoopPoint) → ReadsAt kind l → loopback_in_force kind d l ≡ loops_back d l
+in_force : (kind : LfoType) (d : Direction) (l : Option Float) → ReadsAt kind l → loopback_in_force kind d l ≡ loops_back d l
 unfolding loopback_in_force
 in_force Drawn d l r = refl
 in_force Path d l r = sym (ap (loops_back d) r)
@@ -110,7 +109,7 @@ in_force Lorenz d l r = absurd r
 in_force Rossler d l r = absurd r
 in_force SampleAndHold d l r = absurd r
 
-rest_count : (kind : LfoType) (d : Direction) (l : LoopPoint) → ReadsAt kind l → finished_from kind d ≡ rest_from d
+rest_count : (kind : LfoType) (d : Direction) (l : Option Float) → ReadsAt kind l → finished_from kind d ≡ rest_from d
 unfolding finished_from
 rest_count Drawn d l r = refl
 rest_count Path d l r = refl
@@ -118,7 +117,7 @@ rest_count Lorenz d l r = absurd r
 rest_count Rossler d l r = absurd r
 rest_count SampleAndHold d l r = absurd r
 
-says : (kind : LfoType) (d : Direction) (l : LoopPoint) (c : Float) → ReadsAt kind l → finished_of kind OneShot d l c ≡ not (loops_back d l) && le (rest_from d) c
+says : (kind : LfoType) (d : Direction) (l : Option Float) (c : Float) → ReadsAt kind l → finished_of kind OneShot d l c ≡ not (loops_back d l) && le (rest_from d) c
 unfolding finished_of
 says kind d l c r = rw (in_force kind d l r, rest_count kind d l r)
 
@@ -176,16 +175,16 @@ back_above (fin true m e) t h k = absurd (unfold lt in lt_of_lt_of_le_at zero_fl
 back_above (fin false m e) t h k = less_above m e 1 (pos 1) t (unfold fits in tt) k
 
 -- with no loop, a greater count where the position without a loopback is another
-moves_to : (d : Direction) (c later : Float) (l : LoopPoint) → loops_back d l ≡ false → T (fits binary64 later) → T (finite later) → T (lt c later)
+moves_to : (d : Direction) (c later : Float) (l : Option Float) → loops_back d l ≡ false → T (fits binary64 later) → T (finite later) → T (lt c later)
     → (position_of OneShot d later None ≡ position_of OneShot d c None → ⊥) → Moves OneShot d l c
 moves_to d c later l n t k g e =
     record { later = later; is_f64 = t; is_finite = k; greater = g; elsewhere = λ h. e (sym (no_loop d later l n) ∙ h ∙ no_loop d c l n) }
 
-to_one : (d : Direction) (c : Float) (l : LoopPoint) → loops_back d l ≡ false → T (not (is_nan c)) → T (not (le f64_1 c))
+to_one : (d : Direction) (c : Float) (l : Option Float) → loops_back d l ≡ false → T (not (is_nan c)) → T (not (le f64_1 c))
     → (position_of OneShot d f64_1 None ≡ position_of OneShot d c None → ⊥) → Moves OneShot d l c
 to_one d c l n k h e = moves_to d c f64_1 l n (unfold fits of_bits in tt) (unfold of_bits in tt) (not_le→lt f64_1 c one_number k h) e
 
-moves : (d : Direction) (c : Float) (l : LoopPoint) → loops_back d l ≡ false → T (fits binary64 c) → T (not (is_nan c)) → T (not (le (rest_from d) c)) → Moves OneShot d l c
+moves : (d : Direction) (c : Float) (l : Option Float) → loops_back d l ≡ false → T (fits binary64 c) → T (not (is_nan c)) → T (not (le (rest_from d) c)) → Moves OneShot d l c
 moves Forward c l n t k h = to_one Forward c l n k h (λ e. not_one c h (sym (forward_at c h) ∙ sym e ∙ rests Forward f64_1 (le_refl_at f64_1 one_number)))
 moves Reverse c l n t k h =
     to_one Reverse c l n k h

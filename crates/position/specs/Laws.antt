@@ -1,6 +1,6 @@
 -- What holds of position and of finished. Proved in proofs/Resting.antt and proofs/InForce.antt; up to which count a loop is known not to rest is said in crate
 -- reach. Assumes nothing.
-use Rattle.std.specs.Prelude.{◌≡◌, false, not, ◌&&◌, cond, T, Float}
+use Rattle.std.specs.Prelude.{◌≡◌, false, not, ◌&&◌, cond, T, Float, None, Option, Some}
 use Rattle.std.specs.Float.{binary32, binary64}
 use Rattle.std.specs.Float.Ieee.{of_bits, lt, le, fits, is_nan}
 use Rattle.std.specs.Float.Ieee.Scale.{finite}
@@ -12,8 +12,6 @@ use Rattle.settings.specs.declared.choices.Mode.{Mode}
 use Rattle.settings.specs.declared.choices.Mode.TheVariants.{OneShot}
 use Rattle.settings.specs.declared.choices.Direction.{Direction}
 use Rattle.settings.specs.declared.choices.Direction.TheVariants.{Forward, Reverse, PingPong}
-use Rattle.position.specs.declared.place.LoopPoint.{LoopPoint}
-use Rattle.position.specs.declared.place.LoopPoint.TheVariants.{None, At}
 use Rattle.position.specs.Position.{looped, position_of}
 use Rattle.position.specs.Rest.{loopback_in_force, finished_of}
 
@@ -23,13 +21,13 @@ use Rattle.position.specs.Rest.{loopback_in_force, finished_of}
 abbrev pub PositionLoops : Type 0
 PositionLoops =
     (d : Direction) (c l : Float)
-    → position_of OneShot d c (At l) ≡ cond (le f64_1 c && loopback_in_force Drawn d (At l)) (looped d c l) (position_of OneShot d c None)
+    → position_of OneShot d c (Some l) ≡ cond (le f64_1 c && loopback_in_force Drawn d (Some l)) (looped d c l) (position_of OneShot d c None)
 
 -- the x of a loopback point is an f32 from 0 to 1: it is in force wherever it is below 1, and in reverse from the bits 3089_7060 (hexadecimal) on
 pub record InForceOf (l : Float) : Type 0 where
-  pub forward : loopback_in_force Drawn Forward (At l) ≡ lt l f64_1
-  pub reverse : loopback_in_force Drawn Reverse (At l) ≡ le (of_bits binary32 0x3089_7060) l
-  pub ping_pong : loopback_in_force Drawn PingPong (At l) ≡ lt l f64_1
+  pub forward : loopback_in_force Drawn Forward (Some l) ≡ lt l f64_1
+  pub reverse : loopback_in_force Drawn Reverse (Some l) ≡ le (of_bits binary32 0x3089_7060) l
+  pub ping_pong : loopback_in_force Drawn PingPong (Some l) ≡ lt l f64_1
 
 abbrev pub InForceLaw : Type 0
 InForceLaw = (l : Float) → T (fits binary32 l) → InUnit l → InForceOf l
@@ -37,7 +35,7 @@ InForceLaw = (l : Float) → T (fits binary32 l) → InUnit l → InForceOf l
 -- ---- finished, and at rest
 
 -- at a count c position is not at rest: some greater count has another one
-pub record Moves (m : Mode) (d : Direction) (l : LoopPoint) (c : Float) : Type 0 where
+pub record Moves (m : Mode) (d : Direction) (l : Option Float) (c : Float) : Type 0 where
   pub later : Float
   pub is_f64 : T (fits binary64 later)
   pub is_finite : T (finite later)
@@ -45,7 +43,7 @@ pub record Moves (m : Mode) (d : Direction) (l : LoopPoint) (c : Float) : Type 0
   pub elsewhere : position_of m d later l ≡ position_of m d c l → ⊥
 
 -- the types that read a position, and the loopback that they read it by
-abbrev pub ReadsAt : LfoType → LoopPoint → Type 0
+abbrev pub ReadsAt : LfoType → Option Float → Type 0
 ReadsAt Drawn l = Unit
 ReadsAt Path l = l ≡ None
 ReadsAt Lorenz l = ⊥
@@ -61,11 +59,11 @@ rest_at PingPong = f64_0
 -- finished said: position is there at that count and at every greater one, +∞ included
 abbrev pub FinishedRests : Type 0
 FinishedRests =
-    (kind : LfoType) (m : Mode) (d : Direction) (l : LoopPoint) (c : Float) → ReadsAt kind l → T (finished_of kind m d l c)
+    (kind : LfoType) (m : Mode) (d : Direction) (l : Option Float) (c : Float) → ReadsAt kind l → T (finished_of kind m d l c)
     → (later : Float) → T (le c later) → position_of m d later l ≡ rest_at d
 
 -- not said of a One-shot, with no loopback in force: position moves on; c is an f64 and no NaN
 abbrev pub UnfinishedMoves : Type 0
 UnfinishedMoves =
-    (kind : LfoType) (d : Direction) (l : LoopPoint) (c : Float) → ReadsAt kind l → loopback_in_force kind d l ≡ false → T (fits binary64 c) → T (not (is_nan c))
+    (kind : LfoType) (d : Direction) (l : Option Float) (c : Float) → ReadsAt kind l → loopback_in_force kind d l ≡ false → T (fits binary64 c) → T (not (is_nan c))
     → finished_of kind OneShot d l c ≡ false → Moves OneShot d l c

@@ -1,5 +1,5 @@
 -- Swing and position, each operation rounded once, as in `swung` and `position` of lfo/mod.rs. Assumes nothing.
-use Rattle.std.specs.Prelude.{suc, ◌%◌, Bool, cond, eqb, ℤ, pos, negsuc, Float}
+use Rattle.std.specs.Prelude.{suc, ◌%◌, Bool, cond, eqb, ℤ, pos, negsuc, Float, None, Option, Some}
 use Rattle.std.specs.Float.{binary64}
 use Rattle.std.specs.Float.Ieee.{lt, to_signed}
 use Rattle.floatlaws.specs.Extrema.{max_of}
@@ -11,10 +11,6 @@ use Rattle.settings.specs.declared.choices.Mode.{Mode}
 use Rattle.settings.specs.declared.choices.Mode.TheVariants.{Free, Restart, OneShot}
 use Rattle.settings.specs.declared.choices.Direction.{Direction}
 use Rattle.settings.specs.declared.choices.Direction.TheVariants.{Forward, Reverse, PingPong}
-use Rattle.position.specs.declared.swing.Swing.{Swing}
-use Rattle.position.specs.declared.swing.Swing.TheVariants.{Off, First}
-use Rattle.position.specs.declared.place.LoopPoint.{LoopPoint}
-use Rattle.position.specs.declared.place.LoopPoint.TheVariants.{None, At}
 
 abbrev pub floor_of : Float → Float
 floor_of c = whole_of binary64 to_floor c
@@ -33,9 +29,9 @@ unfoldable pub swung_of : Float → Float → Float
 swung_of c first = pairs_of c +₆₄ into_pair (c -₆₄ pairs_of c) (f64_2 ×₆₄ first)
 
 -- when there is swing
-abbrev pub swung_by : Swing → Float → Float
-swung_by Off c = c
-swung_by (First first) c = swung_of c first
+abbrev pub swung_by : Option Float → Float → Float
+swung_by None c = c
+swung_by (Some first) c = swung_of c first
 
 -- ---- position, of a cycle after the other
 
@@ -81,40 +77,40 @@ looped PingPong c l = let w = loop_length PingPong l in bounced l w (rem_euclid 
 -- ---- position, of one cycle and a loop; c is 0 or more
 
 -- from the loopback point to the end
-unfoldable pub forward_loop : Float → LoopPoint → Float
+unfoldable pub forward_loop : Float → Option Float → Float
 forward_loop c None = f64_1
-forward_loop c (At l) = cond (loops Forward l) (looped Forward c l) f64_1
+forward_loop c (Some l) = cond (loops Forward l) (looped Forward c l) f64_1
 
-unfoldable pub forward_once : Float → LoopPoint → Float
+unfoldable pub forward_once : Float → Option Float → Float
 forward_once c l = cond (lt c f64_1) c (forward_loop c l)
 
 -- from the loopback point to the start
-unfoldable pub reverse_loop : Float → LoopPoint → Float
+unfoldable pub reverse_loop : Float → Option Float → Float
 reverse_loop c None = f64_0
-reverse_loop c (At l) = cond (loops Reverse l) (looped Reverse c l) f64_0
+reverse_loop c (Some l) = cond (loops Reverse l) (looped Reverse c l) f64_0
 
-unfoldable pub reverse_once : Float → LoopPoint → Float
+unfoldable pub reverse_once : Float → Option Float → Float
 reverse_once c l = cond (lt c f64_1) (f64_1 -₆₄ c) (reverse_loop c l)
 
 -- there and back
 unfoldable pub back_once : Float → Float
 back_once c = cond (lt c f64_2) (f64_2 -₆₄ c) f64_0
 
-unfoldable pub ping_pong_loop : Float → LoopPoint → Float
+unfoldable pub ping_pong_loop : Float → Option Float → Float
 ping_pong_loop c None = back_once c
-ping_pong_loop c (At l) = cond (loops PingPong l) (looped PingPong c l) (back_once c)
+ping_pong_loop c (Some l) = cond (loops PingPong l) (looped PingPong c l) (back_once c)
 
-unfoldable pub ping_pong_once : Float → LoopPoint → Float
+unfoldable pub ping_pong_once : Float → Option Float → Float
 ping_pong_once c l = cond (lt c f64_1) c (ping_pong_loop c l)
 
-abbrev pub once_of : Direction → Float → LoopPoint → Float
+abbrev pub once_of : Direction → Float → Option Float → Float
 once_of Forward c l = forward_once c l
 once_of Reverse c l = reverse_once c l
 once_of PingPong c l = ping_pong_once c l
 
 -- ---- position
 
-abbrev pub position_of : Mode → Direction → Float → LoopPoint → Float
+abbrev pub position_of : Mode → Direction → Float → Option Float → Float
 position_of Free d c l = cyclic_of d c
 position_of Restart d c l = cyclic_of d c
 position_of OneShot d c l = once_of d (max_of c f64_0) l

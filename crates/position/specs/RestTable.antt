@@ -1,5 +1,5 @@
 -- Worked cases of a loopback in force and of finished: one table, which the definitions meet by computation. Assumes nothing.
-use Rattle.std.specs.Prelude.{ℕ, ◌-◌, ◌^◌, ◌≡◌, refl, Bool, true, false, List, [], ◌∷◌, map, Float}
+use Rattle.std.specs.Prelude.{ℕ, ◌-◌, ◌^◌, ◌≡◌, refl, Bool, true, false, List, [], ◌∷◌, map, Float, None, Option, Some}
 use Rattle.std.specs.Float.{binary32}
 use Rattle.std.specs.Float.Ieee.{of_bits, round, sub, lt, le}
 use Rattle.floatlaws.specs.Numbers.{f64, f64_1, f64_2}
@@ -8,17 +8,15 @@ use Rattle.settings.specs.declared.choices.LfoType.TheVariants.{Drawn, Path, Lor
 use Rattle.settings.specs.declared.choices.Mode.TheVariants.{OneShot}
 use Rattle.settings.specs.declared.choices.Direction.{Direction}
 use Rattle.settings.specs.declared.choices.Direction.TheVariants.{Forward, Reverse, PingPong}
-use Rattle.position.specs.declared.place.LoopPoint.{LoopPoint}
-use Rattle.position.specs.declared.place.LoopPoint.TheVariants.{None, At}
 use Rattle.position.specs.Rest.{loopback_in_force, finished_from, finished_of}
 
 -- the type, the direction, the loopback; whether it is in force, and whether a One-shot has finished at the count just below 1, at 1, just below 2, and at 2
 pub data Row : Type 0 where
-  row : LfoType → Direction → LoopPoint → Bool → Bool → Bool → Bool → Bool → Row
+  row : LfoType → Direction → Option Float → Bool → Bool → Bool → Bool → Bool → Row
 
 -- a loopback point at the f32 of these bits: 0, the two beside 10^−9, a half, the one below 1, and 1
-abbrev at : ℕ → LoopPoint
-at n = At (of_bits binary32 n)
+abbrev at : ℕ → Option Float
+at n = Some (of_bits binary32 n)
 
 unfoldable pub table : List Row
 table =

@@ -1,5 +1,5 @@
 -- The worked positions and swings of the paper: one table, and one theorem, proved in proofs/Worked.antt. Assumes nothing.
-use Rattle.std.specs.Prelude.{ℕ, ◌^◌, ◌≡◌, true, false, List, [], ◌∷◌, Float}
+use Rattle.std.specs.Prelude.{ℕ, ◌^◌, ◌≡◌, true, false, List, [], ◌∷◌, Float, None, Option, Some}
 use Rattle.std.specs.Float.{binary64}
 use Rattle.std.specs.Float.Ieee.{round}
 use Rattle.settings.specs.declared.choices.Mode.{Mode}
@@ -7,12 +7,10 @@ use Rattle.settings.specs.declared.choices.Mode.TheVariants.{Restart, OneShot}
 use Rattle.settings.specs.declared.choices.Direction.{Direction}
 use Rattle.settings.specs.declared.choices.Direction.TheVariants.{Forward, Reverse, PingPong}
 use Rattle.position.specs.Position.{swung_of, position_of}
-use Rattle.position.specs.declared.place.LoopPoint.{LoopPoint}
-use Rattle.position.specs.declared.place.LoopPoint.TheVariants.{None, At}
 
 pub data Row : Type 0 where
   -- the mode, the direction, the count, the loopback; the position
-  place : Mode → Direction → Float → LoopPoint → Float → Row
+  place : Mode → Direction → Float → Option Float → Float → Row
   -- the first cycle's share, the count; the swung count
   swing : Float → Float → Float → Row
 
@@ -33,10 +31,10 @@ table =
     ∷ place Restart PingPong (minus_fourths 1) None (fourths 1)
     ∷ place Restart PingPong (fourths 5) None (fourths 3)
     ∷ place Restart Reverse (fourths 0) None (fourths 4)
-    ∷ place OneShot Forward (fourths 7) (At (fourths 2)) (fourths 3)
-    ∷ place OneShot Forward (fourths 4) (At (fourths 4)) (fourths 4)
-    ∷ place OneShot Reverse (fourths 5) (At (fourths 2)) (fourths 1)
-    ∷ place OneShot PingPong (fourths 5) (At (fourths 2)) (fourths 3)
+    ∷ place OneShot Forward (fourths 7) (Some (fourths 2)) (fourths 3)
+    ∷ place OneShot Forward (fourths 4) (Some (fourths 4)) (fourths 4)
+    ∷ place OneShot Reverse (fourths 5) (Some (fourths 2)) (fourths 1)
+    ∷ place OneShot PingPong (fourths 5) (Some (fourths 2)) (fourths 3)
     ∷ place OneShot PingPong (fourths 6) None (fourths 2)
     ∷ place OneShot PingPong (fourths 8) None (fourths 0)
     ∷ place Restart Forward just_below None (fourths 4)

@@ -6,6 +6,6 @@ mod place;
 mod rest;
 mod swing;
 
-pub use place::{LoopPoint, position};
+pub use place::position;
 pub use rest::finished;
-pub use swing::{Swing, swung};
+pub use swing::swung;

@@ -4,13 +4,6 @@ ghost use Rattle.position.specs.Position.{odd_cycle, cyclic_of, forward_once, re
 
 use settings::{Direction, Mode};
 
-// Where a One-shot loops back to, if anywhere: 0 to 1.
-#[derive(Clone, Copy)]
-pub enum LoopPoint {
-    None,
-    At(f64),
-}
-
 // Below this a loop has no length.
 pub const EPS: f64 = 0.000000001;
 
@@ -36,40 +29,28 @@ fn cyclic(direction: Direction, c: f64) -> f64
 }
 
 // One cycle, then a loop from the loopback point to the end.
-fn forward_once(c: f64, loopback: LoopPoint) -> f64
+fn forward_once(c: f64, loopback: Option<f64>) -> f64
     ensures { result ≡ forward_once c loopback }
 {
     if c < 1.0 {
         return c;
     }
     match loopback {
-        LoopPoint::None => 1.0,
-        LoopPoint::At(l) => {
-            if 1.0 - l > EPS {
-                l + euclid::rem_euclid_f64(c - 1.0, 1.0 - l)
-            } else {
-                1.0
-            }
-        }
+        Some(l) if 1.0 - l > EPS => l + euclid::rem_euclid_f64(c - 1.0, 1.0 - l),
+        _ => 1.0,
     }
 }
 
 // In reverse, the loop runs from the loopback point back to the start.
-fn reverse_once(c: f64, loopback: LoopPoint) -> f64
+fn reverse_once(c: f64, loopback: Option<f64>) -> f64
     ensures { result ≡ reverse_once c loopback }
 {
     if c < 1.0 {
         return 1.0 - c;
     }
     match loopback {
-        LoopPoint::None => 0.0,
-        LoopPoint::At(l) => {
-            if l > EPS {
-                l - euclid::rem_euclid_f64(c - 1.0, l)
-            } else {
-                0.0
-            }
-        }
+        Some(l) if l > EPS => l - euclid::rem_euclid_f64(c - 1.0, l),
+        _ => 0.0,
     }
 }
 
@@ -88,27 +69,23 @@ fn back_once(c: f64) -> f64
 }
 
 // Ping-pong goes there and back once, or bounces between the end and the loopback point.
-fn ping_pong_once(c: f64, loopback: LoopPoint) -> f64
+fn ping_pong_once(c: f64, loopback: Option<f64>) -> f64
     ensures { result ≡ ping_pong_once c loopback }
 {
     if c < 1.0 {
         return c;
     }
     match loopback {
-        LoopPoint::None => back_once(c),
-        LoopPoint::At(l) => {
+        Some(l) if 1.0 - l > EPS => {
             let w = 1.0 - l;
-            if w > EPS {
-                bounce(l, w, euclid::rem_euclid_f64(c - 1.0, 2.0 * w))
-            } else {
-                back_once(c)
-            }
+            bounce(l, w, euclid::rem_euclid_f64(c - 1.0, 2.0 * w))
         }
+        _ => back_once(c),
     }
 }
 
 // A One-shot, c from 0 up.
-fn once(direction: Direction, c: f64, loopback: LoopPoint) -> f64
+fn once(direction: Direction, c: f64, loopback: Option<f64>) -> f64
     ensures { result ≡ once_of direction c loopback }
 {
     match direction {
@@ -118,12 +95,12 @@ fn once(direction: Direction, c: f64, loopback: LoopPoint) -> f64
     }
 }
 
-// Where in the shape (0 to 1) position `c` cycles falls, by mode and direction, with a One-shot loopback at `loopback`.
-pub fn position(mode: Mode, direction: Direction, c: f64, loopback: LoopPoint) -> f64
+// Where in the shape (0 to 1) position `c` cycles falls, by mode and direction, with a One-shot loopback at `loopback`, if any (0 to 1).
+pub fn position(mode: Mode, direction: Direction, c: f64, loopback: Option<f64>) -> f64
     ensures { result ≡ position_of mode direction c loopback }
 {
     match mode {
         Mode::Free | Mode::Restart => cyclic(direction, c),
-        Mode::OneShot => once(direction, extrema::max_f64(c, 0.0), loopback),
+        Mode::OneShot => once(direction, extrema::max(c, 0.0), loopback),
     }
 }

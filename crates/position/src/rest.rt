@@ -3,7 +3,7 @@ ghost use Rattle.std.specs.Prelude.{◌≡◌};
 ghost use Rattle.position.specs.Position.{loop_length};
 ghost use Rattle.position.specs.Rest.{loops_back, loopback_in_force, rest_from, finished_from, finished_of};
 
-use super::place::{EPS, LoopPoint};
+use super::place::EPS;
 use settings::{Direction, LfoType, Mode};
 
 // How long the loop from a loopback point at l is.
@@ -18,17 +18,17 @@ fn loop_length(direction: Direction, l: f64) -> f64
 }
 
 // Whether there is a loop.
-fn loops_back(direction: Direction, loopback: LoopPoint) -> bool
+fn loops_back(direction: Direction, loopback: Option<f64>) -> bool
     ensures { result ≡ loops_back direction loopback }
 {
     match loopback {
-        LoopPoint::None => false,
-        LoopPoint::At(l) => loop_length(direction, l) > EPS,
+        None => false,
+        Some(l) => loop_length(direction, l) > EPS,
     }
 }
 
 // Only a drawn shape loops back.
-fn loopback_in_force(kind: LfoType, direction: Direction, loopback: LoopPoint) -> bool
+fn loopback_in_force(kind: LfoType, direction: Direction, loopback: Option<f64>) -> bool
     ensures { result ≡ loopback_in_force kind direction loopback }
 {
     match kind {
@@ -69,7 +69,7 @@ pub fn finished(
     kind: LfoType,
     mode: Mode,
     direction: Direction,
-    loopback: LoopPoint,
+    loopback: Option<f64>,
     count: f64,
 ) -> bool
     ensures { result ≡ finished_of kind mode direction loopback count }

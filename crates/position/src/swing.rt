@@ -2,13 +2,6 @@
 ghost use Rattle.std.specs.Prelude.{◌≡◌};
 ghost use Rattle.position.specs.Position.{into_pair, swung_of};
 
-// The first cycle's share of each pair, when swinging.
-#[derive(Clone, Copy)]
-pub enum Swing {
-    Off,
-    First(f64),
-}
-
 // How far into its pair a count r is, when the first cycle takes a of the pair's two.
 fn into_pair(r: f64, a: f64) -> f64
     ensures { result ≡ into_pair r a }

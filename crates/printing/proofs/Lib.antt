@@ -1,2 +1,1 @@
-pub mod Shifted
 pub mod Loop

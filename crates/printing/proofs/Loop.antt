@@ -7,7 +7,7 @@ use mathlib.Core.Path.{◌≡◌, refl, sym, ◌∙◌}
 use mathlib.Core.Bool.{Bool, true, false, not, cond, false≢true}
 use mathlib.Core.List.{List}
 use native.Mathlib.Omega.{arith}
-use borrow.Author.Tests.{eqb-true, eqb-false, eq-eqb, ne_eqb}
+use borrow.Author.Tests.{eqb-false}
 use lib.Dec.{eqb}
 use lib.ListN.{length, drop, length-drop}
 use lib.Seq.{length-take-le}
@@ -99,11 +99,3 @@ not_over {b = false} e z = sym e
 pub was_so : {b : Bool} → not b ≡ false → b ≡ true
 was_so {b = true} e = refl
 was_so {b = false} e = absurd (false≢true (sym e))
-
--- nothing is read where what may still be read stays
-pub none_read : (n left : ℕ) → n ≤ left → eqb n 0 ≡ eqb (left - n) left
-none_read n left most = by_test (eqb n 0) refl
-  where
-    by_test : (b : Bool) → eqb n 0 ≡ b → b ≡ eqb (left - n) left
-    by_test true e = let none = eqb-true n 0 e in sym (eq-eqb (left - n) left (omega arith))
-    by_test false e = let some = eqb-false n 0 e in sym (ne_eqb (left - n) left (λ z. some (omega arith)))

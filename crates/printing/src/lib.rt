@@ -10,10 +10,13 @@ ghost use Rattle.turns.specs.Turns.{is_over, turn_room};
 
 use std::io::{Read, Write};
 use turns::{Progress, Sitting};
-use window::{least, refill};
+use window::refill;
 
 // The bytes of the window.
 const SPAN: usize = 65536;
+
+// The frames of a block, at most.
+const BLOCK: usize = 4096;
 
 // The text of two blocks at least.
 const ROOM: usize = 319488;
@@ -26,10 +29,7 @@ fn print_some<W: Write>(to: &mut W, out: &[u8], n: usize, progress: Progress) ->
     requires { n ≤ length out.now }
     ensures { result ≡ true → is_over progress ≡ false }
 {
-    if to.write_all(&out[..n]).is_err() {
-        return false;
-    }
-    !turns::is_over(progress)
+    to.write_all(&out[..n]).is_ok() && !turns::is_over(progress)
 }
 
 // Writes what is still due where the input has ended.
@@ -55,17 +55,16 @@ fn print_through<R: Read, W: Write, E: Write>(
     ensures { result ≤ most }
 {
     let mut sitting = turns::begin();
-    let mut from: usize = 0;
-    let mut have: usize = 0;
-    let mut left = least(most, MOST);
+    let mut from = 0;
+    let mut have = 0;
+    let mut left = most.min(MOST);
     let mut ended = false;
+    // How far it goes is known only after a read, so this is no `for`.
     while !ended {
         let r = turns::take_turns(sitting, &window[from..have], x, y, out);
-        let next = r.sitting;
-        let progress = next.progress;
-        sitting = next;
+        sitting = r.sitting;
         from += r.taken;
-        if !print_some(to, out, r.written, progress) {
+        if !print_some(to, out, r.written, sitting.progress) {
             return left;
         }
         if !r.full {
@@ -83,25 +82,6 @@ fn print_through<R: Read, W: Write, E: Write>(
     left
 }
 
-// A block's values.
-fn zeros() -> [f32; 4096]
-    ensures { length result ≡ 4096 }
-{
-    [0.0; 4096]
-}
-
-fn window_buffer() -> [u8; SPAN]
-    ensures { length result ≡ 65536 }
-{
-    [0; SPAN]
-}
-
-fn text_buffer() -> [u8; ROOM]
-    ensures { length result ≡ 319488 }
-{
-    [0; ROOM]
-}
-
 // Prints on `to` the sheet of the sitting in the next `most` bytes of `input`, or in all where there are fewer, and words on a read that fails on `errors`. Answers how many of
 // these bytes it has not read: it stops at the first fault, and where `to` is closed.
 pub fn print_sheet<R: Read, W: Write, E: Write>(
@@ -112,10 +92,10 @@ pub fn print_sheet<R: Read, W: Write, E: Write>(
 ) -> u64
     ensures { result ≤ most }
 {
-    let mut window = window_buffer();
-    let mut x = zeros();
-    let mut y = zeros();
-    let mut out = text_buffer();
+    let mut window = [0; SPAN];
+    let mut x = [0.0; BLOCK];
+    let mut y = [0.0; BLOCK];
+    let mut out = [0; ROOM];
     print_through(
         input,
         to,

@@ -1,55 +1,22 @@
 // The window through which an input is read.
-ghost use Rattle.std.specs.Prelude.{◌+◌, ◌-◌, ◌≤◌, ◌<◌, min, ◌≡◌, length, take, drop};
-ghost use Rattle.listlaws.specs.Over.{over};
+ghost use Rattle.std.specs.Prelude.{◌+◌, ◌-◌, ◌≤◌, ◌<◌, ◌≡◌, IfOk, length, take};
 ghost use Rattle.printing.specs.Windows.{Refills};
 
+use std::io;
 use std::io::{Read, Write};
 
-pub fn least(a: u64, b: u64) -> u64
-    ensures { result ≡ min a b }
-{
-    if a < b { a } else { b }
-}
-
-// Moves the bytes from `from` up to `have` to the front of the window, and answers how many they are.
-fn keep_rest(window: &mut [u8], from: usize, have: usize) -> usize
-    requires { (from ≤ have) × (have ≤ length window.old) }
-    ensures { (result ≡ have - from) × (window.new ≡ over window.old 0 (take (have - from) (drop from window.old))) }
-{
-    let n = have - from;
-    for i in 0..n {
-        window[i] = window[from + i];
-    }
-    n
-}
-
-// What a read gave: bytes, none where the input has ended; or it failed.
-#[derive(Drop)]
-pub struct Got {
-    pub count: usize,
-    pub failed: bool,
-}
-
-// Reads at most `left` bytes to the place `have` of a window that is not full. The bytes before it stay.
-fn read_more<R: Read>(input: &mut R, window: &mut [u8], have: usize, left: u64) -> Got
+// Reads at most `left` bytes to the place `have` of a window that is not full, and answers how many: none where the input has ended. The bytes before them stay.
+fn read_more<R: Read>(input: &mut R, window: &mut [u8], have: usize, left: u64) -> io::Result<usize>
     requires { have < length window.old }
-    ensures { (have + result.count ≤ length window.new) × (result.count ≤ left) × (take have window.new ≡ take have window.old) }
+    ensures count { IfOk result (λ n. (have + n ≤ length window.new) × (n ≤ left)) }
+    ensures same { take have window.new ≡ take have window.old }
 {
-    let end = have + least(left, (window.len() - have) as u64) as usize;
-    match input.read(&mut window[have..end]) {
-        Ok(count) => Got {
-            count,
-            failed: false,
-        },
-        Err(_) => Got {
-            count: 0,
-            failed: true,
-        },
-    }
+    let end = have + left.min((window.len() - have) as u64) as usize;
+    input.read(&mut window[have..end])
 }
 
 // What stands in the window: `have` bytes; `left` more may be read.
-#[derive(Drop)]
+#[derive(Clone, Copy)]
 pub struct Filled {
     pub have: usize,
     pub left: u64,
@@ -69,15 +36,23 @@ pub fn refill<R: Read, E: Write>(
     requires { (from ≤ have) × (have ≤ length window.old) × (have - from < length window.old) }
     ensures { Refills window.old from have left result window.new }
 {
-    let n = keep_rest(window, from, have);
-    let got = read_more(input, window, n, left);
-    if got.failed {
-        let _ = errors.write_all(b"standard input cannot be read\n");
-    }
-    Filled {
-        have: n + got.count,
-        left: left - got.count as u64,
-        ended: got.count == 0,
-        failed: got.failed,
+    let n = have - from;
+    window.copy_within(from..have, 0);
+    match read_more(input, window, n, left) {
+        Ok(count) => Filled {
+            have: n + count,
+            left: left - count as u64,
+            ended: count == 0,
+            failed: false,
+        },
+        Err(_) => {
+            let _ = errors.write_all(b"standard input cannot be read\n");
+            Filled {
+                have: n,
+                left,
+                ended: true,
+                failed: true,
+            }
+        }
     }
 }

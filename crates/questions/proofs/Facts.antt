@@ -1,4 +1,5 @@
 -- What the questions leave of a call that is accepted, of which `first_no` is 0. Assumes nothing.
+use Rattle.std.specs.Prelude.{None, Option, Some, slice_get}
 use Prim.Native.Nat.{ℕ, zero, suc, ◌+◌, ◌^◌, ◌≤◌, ◌<◌, min}
 use mathlib.Core.Path.{◌≡◌, refl, sym, subst}
 use mathlib.Core.Logic.{inl, inr}
@@ -20,9 +21,7 @@ use Rattle.floatlaws.proofs.Size.{size_of_le, size_of_range}
 use Rattle.floatlaws.proofs.Tests.{yes_so}
 use Rattle.floatlaws.proofs.Unit.{zero_float}
 use Rattle.listlaws.proofs.Tabulation.{get_or_padded}
-use Rattle.points.specs.declared.PointMod.TheVariants as PointMod
 use Rattle.points.specs.Modulation.{FiniteMod}
-use Rattle.shape.specs.declared.Loopback.TheVariants as Loopback
 use Rattle.shape.specs.Points.{blank, no_point, FinitePoint}
 use Rattle.shape.specs.Shapes.{within}
 use Rattle.leg.specs.Paper.{on_paper}
@@ -31,26 +30,12 @@ use Rattle.settings.specs.Divisions.{division_at}
 use Rattle.settings.specs.Times.{rates, synced_rate, hz_rate, rate_at, scales, scale_at}
 use Rattle.settings.specs.Codes.{settings_at, transport_at, settings_known, transport_known}
 use Rattle.settings.proofs.Read.{settings_read, transport_read}
-use Rattle.settings.specs.declared.choices.FeelCode.{FeelCode}
-use Rattle.settings.specs.declared.choices.FeelCode.TheVariants as FeelCode
-use Rattle.settings.specs.declared.choices.YesNo.{YesNo}
-use Rattle.settings.specs.declared.choices.YesNo.TheVariants as YesNo
-use Rattle.settings.specs.declared.division.DivisionCode.{DivisionCode}
-use Rattle.settings.specs.declared.division.DivisionCode.TheVariants as DivisionCode
 use Rattle.codes.specs.declared.RateCodes.{RateCodes}
-use Rattle.settings.specs.declared.times.RateCode.{RateCode}
-use Rattle.settings.specs.declared.times.RateCode.TheVariants as RateCode
 use Rattle.codes.specs.declared.ScaleCodes.{ScaleCodes}
-use Rattle.settings.specs.declared.times.ScaleCode.{ScaleCode}
-use Rattle.settings.specs.declared.times.ScaleCode.TheVariants as ScaleCode
 use Rattle.settings.specs.declared.record.Settings.{Settings}
 use Rattle.codes.specs.declared.SettingsCodes.{SettingsCodes}
-use Rattle.settings.specs.declared.record.SettingsCode.{SettingsCode}
-use Rattle.settings.specs.declared.record.SettingsCode.TheVariants as SettingsCode
 use Rattle.settings.specs.declared.record.Transport.{Transport}
 use Rattle.codes.specs.declared.TransportCodes.{TransportCodes}
-use Rattle.settings.specs.declared.record.TransportCode.{TransportCode}
-use Rattle.settings.specs.declared.record.TransportCode.TheVariants as TransportCode
 use Rattle.reach.specs.Bounds.{RateNumber, SettingsIn, PercentNumber, TransportIn}
 use Rattle.codes.specs.declared.ModCodes.{ModCodes}
 use Rattle.codes.specs.declared.PointCodes.{PointCodes}
@@ -63,6 +48,10 @@ use Rattle.questions.specs.Limits.{f64_64, f64_1000, f64_768000, f64_2147483647,
 use Rattle.questions.specs.Tests.{every_kept, every, between, rate_finite, span_finite, smooth_finite, settings_finite, smooth_in, mod_finite, point_finite, shape_finite, path_finite, transport_finite, transport_in, loopback_below, loopback_in, path_point_on_paper, path_on_paper, point_on_grid, shape_on_grid}
 use Rattle.questions.specs.Questions.{Question, first_no, settings_questions, shape_questions, path_questions, bus_questions, phase_questions, block_questions}
 use Rattle.questions.proofs.Laws.{and_true, three, five, seven}
+use Rattle.settings.specs.declared.division.Division.{Division}
+use Rattle.settings.specs.declared.choices.Feel.{Feel}
+use Rattle.settings.specs.declared.times.Rate.{Rate}
+use Rattle.settings.specs.declared.times.Scale.{Scale}
 
 -- ---- the laws that the others cite
 
@@ -100,34 +89,34 @@ settings_accepted c h =
     let q5 = passed 4 _ _ q2.1 in
     record { known = q1.0; finite_all = q2.0; smooth_is_in = q5.0 }
 
-abbrev KnownRate : RateCode → Type 0
-KnownRate (RateCode.Known r) = RateNumber r
-KnownRate RateCode.Unknown = Unit
+abbrev KnownRate : Option Rate → Type 0
+KnownRate (Some r) = RateNumber r
+KnownRate None = Unit
 
-abbrev KnownScale : ScaleCode → Type 0
-KnownScale (ScaleCode.Known s) = PercentNumber s
-KnownScale ScaleCode.Unknown = Unit
+abbrev KnownScale : Option Scale → Type 0
+KnownScale (Some s) = PercentNumber s
+KnownScale None = Unit
 
-synced_number : (d : DivisionCode) (f : FeelCode) → KnownRate (synced_rate d f)
-synced_number (DivisionCode.Known d) (FeelCode.Known f) = tt
-synced_number (DivisionCode.Known d) FeelCode.Unknown = tt
-synced_number DivisionCode.Unknown f = tt
+synced_number : (d : Option Division) (f : Option Feel) → KnownRate (synced_rate d f)
+synced_number (Some d) (Some f) = tt
+synced_number (Some d) None = tt
+synced_number None f = tt
 
-hz_number : (hz : Float) (x : YesNo) → T (finite hz) → KnownRate (hz_rate hz x)
-hz_number hz (YesNo.Known b) h = finite_number hz h
-hz_number hz YesNo.Unknown h = tt
+hz_number : (hz : Float) (x : Option Bool) → T (finite hz) → KnownRate (hz_rate hz x)
+hz_number hz (Some b) h = finite_number hz h
+hz_number hz None h = tt
 
 rate_number : (c : RateCodes) → rate_finite c ≡ true → KnownRate (rate_at c)
 unfolding rate_at
 rate_number c = at c.code
   where
-    at : (k : ℕ) → cond (eqb k 1) (finite c.hz) true ≡ true → KnownRate (get_or (rates c) k RateCode.Unknown)
+    at : (k : ℕ) → cond (eqb k 1) (finite c.hz) true ≡ true → KnownRate (get_or (rates c) k None)
     at zero h = synced_number (division_at c.division) (feel_at c.feel)
     at (suc zero) h = hz_number c.hz (yes_no_at c.x10) (yes_so h)
     at (suc (suc k)) h = tt
 
 -- no number of known settings whose floats are finite is a NaN
-pub settings_numbers : (c : SettingsCodes) (s : Settings) → settings_finite c ≡ true → settings_at c ≡ SettingsCode.Known s → RateNumber s.rate × T (not (is_nan s.phase))
+pub settings_numbers : (c : SettingsCodes) (s : Settings) → settings_finite c ≡ true → settings_at c ≡ Some s → RateNumber s.rate × T (not (is_nan s.phase))
 unfolding settings_finite
 settings_numbers c s h e =
     let all = five (rate_finite c.rate) (span_finite c.fade_in) (span_finite c.delay) (smooth_finite c.smooth) (finite c.phase) h in
@@ -135,7 +124,7 @@ settings_numbers c s h e =
     (subst KnownRate r.rate (rate_number c.rate all.0), rw r.phase (finite_number c.phase (yes_so all.4)))
 
 pub settings_in : (c : SettingsCodes) → first_no (settings_questions c) ≡ 0
-    → (s : Settings) → settings_at c ≡ SettingsCode.Known s → s.grid_x < 2 ^ 16 → SettingsIn s
+    → (s : Settings) → settings_at c ≡ Some s → s.grid_x < 2 ^ 16 → SettingsIn s
 settings_in c h s e g =
     let n = settings_numbers c s (settings_accepted c h).finite_all e in
     record { rate_number = n.0; phase_number = n.1; grid_in = g }
@@ -146,7 +135,7 @@ percent_number : (c : ScaleCodes) → T (finite c.percent) → KnownScale (scale
 unfolding scale_at
 percent_number c h = at c.code
   where
-    at : (k : ℕ) → KnownScale (get_or (scales c) k ScaleCode.Unknown)
+    at : (k : ℕ) → KnownScale (slice_get (scales c) k)
     at zero = finite_number c.percent h
     at (suc zero) = finite_number c.percent h
     at (suc (suc k)) = tt
@@ -171,7 +160,7 @@ pub record TransportAccepted (c : TransportCodes) : Type 0 where
   pub finite_all : transport_finite c ≡ true
   pub in_range : transport_in c ≡ true
 
-pub transport_is_in : (c : TransportCodes) → TransportAccepted c → (t : Transport) → transport_at c ≡ TransportCode.Known t → TransportIn t
+pub transport_is_in : (c : TransportCodes) → TransportAccepted c → (t : Transport) → transport_at c ≡ Some t → TransportIn t
 unfolding transport_finite transport_in
 transport_is_in c a t e =
     let all =
@@ -244,7 +233,7 @@ mod_finite_lem : (c : ModCodes) → mod_finite c ≡ true → FiniteMod (mod_of 
 unfolding mod_of
 mod_finite_lem c = at (eqb c.code 1)
   where
-    at : (b : Bool) → cond b (finite c.depth) true ≡ true → FiniteMod (cond b (PointMod.Bus c.bus c.depth) PointMod.None)
+    at : (b : Bool) → cond b (finite c.depth) true ≡ true → FiniteMod (cond b (Some (record { bus = c.bus; depth = c.depth })) None)
     at true h = yes_so h
     at false h = tt
 
@@ -268,7 +257,7 @@ below_kept : (c : LoopbackCodes) (n : ℕ) → loopback_below c n ≡ true → w
 unfolding within loopback_of
 below_kept c n = at (eqb c.code 1)
   where
-    at : (b : Bool) → cond b (ltb c.index n) true ≡ true → let l = cond b (Loopback.At c.index) Loopback.None in within l n ≡ l
+    at : (b : Bool) → cond b (ltb c.index n) true ≡ true → let l = cond b (Some c.index) None in within l n ≡ l
     at true h = rw h
     at false h = refl
 

@@ -1,11 +1,18 @@
-// Tests of a shape and a path as a call hands them in, each of one question. A loop over points takes their array, of which it then knows the length.
-ghost use Rattle.std.specs.Prelude.{◌≡◌};
-ghost use Rattle.curves.specs.Given.{no_point_codes, no_path_point_codes};
+// Tests of a shape and a path as a call hands them in, each of one question.
+ghost use Rattle.std.specs.Prelude.{◌≡◌, Bool};
 ghost use Rattle.questions.specs.Tests.{every_kept, point_known, shape_known, path_point_known, path_known, mod_finite, point_finite, shape_finite, path_point_finite, path_finite, loopback_below, loopback_in, path_point_on_paper, path_on_paper, point_on_grid, shape_on_grid};
 
 use super::floats::{if_chosen, is_finite_f32};
 use codes::{LoopbackCodes, ModCodes, PathCodes, PathPointCodes, PointCodes, ShapeCodes};
 use points::MAX_POINTS;
+
+// Whether each point that is kept of `count` passes `test`.
+fn every_kept<C: Copy, F: Fn(C) -> bool>(points: &[C; MAX_POINTS], count: usize, test: F) -> bool
+    requires { F.IsAlwaysCallable test }
+    ensures { (t : C → Bool) (none : C) → ((c : C) (r : Bool) → F.post test c r → r ≡ t c) → result ≡ every_kept t none points.now count }
+{
+    points[..points::kept(count)].iter().all(|c| test(*c))
+}
 
 fn mod_finite(c: ModCodes) -> bool
     ensures { result ≡ mod_finite c }
@@ -24,55 +31,25 @@ fn point_known(c: PointCodes) -> bool
 fn point_finite(c: PointCodes) -> bool
     ensures { result ≡ point_finite c }
 {
-    let x_mod = c.x_mod;
-    let y_mod = c.y_mod;
     is_finite_f32(c.x)
         & is_finite_f32(c.y)
         & is_finite_f32(c.curve)
-        & mod_finite(x_mod)
-        & mod_finite(y_mod)
-}
-
-fn points_known(points: [PointCodes; MAX_POINTS], count: usize) -> bool
-    ensures { result ≡ every_kept point_known no_point_codes points count }
-{
-    let n = points::kept(count);
-    let mut all = true;
-    let mut i = 0;
-    while i < n {
-        all = all & point_known(points[i]);
-        i += 1;
-    }
-    all
+        & mod_finite(c.x_mod)
+        & mod_finite(c.y_mod)
 }
 
 // Question 1 of a shape.
 pub fn shape_known(c: ShapeCodes) -> bool
     ensures { result ≡ shape_known c }
 {
-    let points = c.points;
-    points_known(points, c.count) & (c.loopback.code < 2)
-}
-
-fn points_finite(points: [PointCodes; MAX_POINTS], count: usize) -> bool
-    ensures { result ≡ every_kept point_finite no_point_codes points count }
-{
-    let n = points::kept(count);
-    let mut all = true;
-    let mut i = 0;
-    while i < n {
-        all = all & point_finite(points[i]);
-        i += 1;
-    }
-    all
+    every_kept(&c.points, c.count, point_known) & (c.loopback.code < 2)
 }
 
 // Question 2.
 pub fn shape_finite(c: ShapeCodes) -> bool
     ensures { result ≡ shape_finite c }
 {
-    let points = c.points;
-    points_finite(points, c.count)
+    every_kept(&c.points, c.count, point_finite)
 }
 
 // Whether a loopback point, if present, is one of `n` points.
@@ -86,33 +63,23 @@ fn loopback_below(c: LoopbackCodes, n: usize) -> bool
 pub fn loopback_in(c: ShapeCodes) -> bool
     ensures { result ≡ loopback_in c }
 {
-    let loopback = c.loopback;
-    loopback_below(loopback, points::kept(c.count))
+    loopback_below(c.loopback, points::kept(c.count))
 }
 
-fn points_on_grid(points: [PointCodes; MAX_POINTS], count: usize) -> bool
-    ensures { result ≡ every_kept point_on_grid no_point_codes points count }
+fn point_on_grid(c: PointCodes) -> bool
+    ensures { result ≡ point_on_grid c }
 {
-    let n = points::kept(count);
-    let mut all = true;
-    let mut i = 0;
-    while i < n {
-        let c = points[i];
-        all = all & bend::on_grid(c.curve);
-        i += 1;
-    }
-    all
+    bend::on_grid(c.curve)
 }
 
 // Question 10.
 pub fn shape_on_grid(c: ShapeCodes) -> bool
     ensures { result ≡ shape_on_grid c }
 {
-    let points = c.points;
-    points_on_grid(points, c.count)
+    every_kept(&c.points, c.count, point_on_grid)
 }
 
-// ---- a path
+// ---- a path. Its points have other fields than a shape's, so a trait of both would still have a body for each.
 
 fn path_point_known(c: PathPointCodes) -> bool
     ensures { result ≡ path_point_known c }
@@ -123,55 +90,25 @@ fn path_point_known(c: PathPointCodes) -> bool
 fn path_point_finite(c: PathPointCodes) -> bool
     ensures { result ≡ path_point_finite c }
 {
-    let x_mod = c.x_mod;
-    let y_mod = c.y_mod;
     is_finite_f32(c.x)
         & is_finite_f32(c.y)
         & is_finite_f32(c.bend)
-        & mod_finite(x_mod)
-        & mod_finite(y_mod)
-}
-
-fn path_points_known(points: [PathPointCodes; MAX_POINTS], count: usize) -> bool
-    ensures { result ≡ every_kept path_point_known no_path_point_codes points count }
-{
-    let n = points::kept(count);
-    let mut all = true;
-    let mut i = 0;
-    while i < n {
-        all = all & path_point_known(points[i]);
-        i += 1;
-    }
-    all
+        & mod_finite(c.x_mod)
+        & mod_finite(c.y_mod)
 }
 
 // Question 1 of a path.
 pub fn path_known(c: PathCodes) -> bool
     ensures { result ≡ path_known c }
 {
-    let points = c.points;
-    path_points_known(points, c.count) & (c.closed < 2)
-}
-
-fn path_points_finite(points: [PathPointCodes; MAX_POINTS], count: usize) -> bool
-    ensures { result ≡ every_kept path_point_finite no_path_point_codes points count }
-{
-    let n = points::kept(count);
-    let mut all = true;
-    let mut i = 0;
-    while i < n {
-        all = all & path_point_finite(points[i]);
-        i += 1;
-    }
-    all
+    every_kept(&c.points, c.count, path_point_known) & (c.closed < 2)
 }
 
 // Question 2.
 pub fn path_finite(c: PathCodes) -> bool
     ensures { result ≡ path_finite c }
 {
-    let points = c.points;
-    path_points_finite(points, c.count)
+    every_kept(&c.points, c.count, path_point_finite)
 }
 
 fn path_point_on_paper(c: PathPointCodes) -> bool
@@ -180,23 +117,9 @@ fn path_point_on_paper(c: PathPointCodes) -> bool
     leg::on_paper(c.x) & leg::on_paper(c.y)
 }
 
-fn path_points_on_paper(points: [PathPointCodes; MAX_POINTS], count: usize) -> bool
-    ensures { result ≡ every_kept path_point_on_paper no_path_point_codes points count }
-{
-    let n = points::kept(count);
-    let mut all = true;
-    let mut i = 0;
-    while i < n {
-        all = all & path_point_on_paper(points[i]);
-        i += 1;
-    }
-    all
-}
-
 // Question 11.
 pub fn path_on_paper(c: PathCodes) -> bool
     ensures { result ≡ path_on_paper c }
 {
-    let points = c.points;
-    path_points_on_paper(points, c.count)
+    every_kept(&c.points, c.count, path_point_on_paper)
 }

@@ -22,14 +22,13 @@ pub use settings_tests::{
 pub fn settings_answer(c: SettingsCodes) -> u8
     ensures { result ≡ first_no (settings_questions c) }
 {
-    let smooth = c.smooth;
     if !settings_known(c) {
         return 1;
     }
     if !settings_finite(c) {
         return 2;
     }
-    if !smooth_in(smooth) {
+    if !smooth_in(c.smooth) {
         return 5;
     }
     0

@@ -3,9 +3,9 @@ ghost use Rattle.std.specs.Prelude.{◌≡◌};
 ghost use Rattle.settings.specs.Codes.{settings_known, transport_known};
 ghost use Rattle.questions.specs.Tests.{rate_finite, span_finite, smooth_finite, settings_finite, smooth_in, transport_finite, transport_in};
 
-use super::floats::{between_f32, between_f64, if_chosen, is_finite_f32, is_finite_f64};
+use super::floats::{if_chosen, is_finite_f32, is_finite_f64};
 use codes::{RateCodes, SettingsCodes, SmoothCodes, SpanCodes, TransportCodes};
-use settings::{Settings, SettingsCode, Transport, TransportCode};
+use settings::{Settings, Transport};
 
 // ---- settings
 
@@ -13,8 +13,8 @@ pub fn settings_known(c: SettingsCodes) -> bool
     ensures { result ≡ settings_known c }
 {
     match Settings::from_codes(c) {
-        SettingsCode::Known(_) => true,
-        SettingsCode::Unknown => false,
+        Some(_) => true,
+        None => false,
     }
 }
 
@@ -39,21 +39,17 @@ fn smooth_finite(c: SmoothCodes) -> bool
 pub fn settings_finite(c: SettingsCodes) -> bool
     ensures { result ≡ settings_finite c }
 {
-    let rate = c.rate;
-    let fade_in = c.fade_in;
-    let delay = c.delay;
-    let smooth = c.smooth;
-    rate_finite(rate)
-        & span_finite(fade_in)
-        & span_finite(delay)
-        & smooth_finite(smooth)
+    rate_finite(c.rate)
+        & span_finite(c.fade_in)
+        & span_finite(c.delay)
+        & smooth_finite(c.smooth)
         & is_finite_f32(c.phase)
 }
 
 pub fn smooth_in(c: SmoothCodes) -> bool
     ensures { result ≡ smooth_in c }
 {
-    if_chosen(c.code == 1, between_f32(0.0, c.coefficient, 1.0))
+    if_chosen(c.code == 1, (0.0..=1.0).contains(&c.coefficient))
 }
 
 // ---- a transport
@@ -62,8 +58,8 @@ pub fn transport_known(c: TransportCodes) -> bool
     ensures { result ≡ transport_known c }
 {
     match Transport::from_codes(c) {
-        TransportCode::Known(_) => true,
-        TransportCode::Unknown => false,
+        Some(_) => true,
+        None => false,
     }
 }
 
@@ -82,9 +78,9 @@ pub fn transport_finite(c: TransportCodes) -> bool
 pub fn transport_in(c: TransportCodes) -> bool
     ensures { result ≡ transport_in c }
 {
-    between_f64(1000.0, c.sample_rate, 768000.0)
-        & between_f64(0.0, c.tempo, 1000.0)
-        & between_f64(0.25, c.beats_per_bar, 64.0)
-        & between_f64(-2147483648.0, c.beats, 2147483647.0)
-        & between_f64(-2147483648.0, c.seconds, 2147483647.0)
+    (1000.0..=768000.0).contains(&c.sample_rate)
+        & (0.0..=1000.0).contains(&c.tempo)
+        & (0.25..=64.0).contains(&c.beats_per_bar)
+        & (-2147483648.0..=2147483647.0).contains(&c.beats)
+        & (-2147483648.0..=2147483647.0).contains(&c.seconds)
 }

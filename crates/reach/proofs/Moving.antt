@@ -1,4 +1,5 @@
 -- A loop does not come to rest: in one of 2^−q or more, of three counts just above 2^(50 − q) two have different positions, so one has another than any count given. Assumes nothing.
+use Rattle.std.specs.Prelude.{None, Some}
 use mathlib.Core.Path.{◌≡◌, refl, sym, ap, ◌∙◌, subst}
 use mathlib.Core.Logic.{◌⊎◌, inl, inr}
 use mathlib.Core.Bool.{Bool, true, false, not, false≢true}
@@ -30,7 +31,6 @@ use Rattle.settings.specs.declared.choices.LfoType.TheVariants.{Drawn, Path, Lor
 use Rattle.settings.specs.declared.choices.Mode.TheVariants.{OneShot}
 use Rattle.settings.specs.declared.choices.Direction.{Direction}
 use Rattle.settings.specs.declared.choices.Direction.TheVariants.{Forward, Reverse, PingPong}
-use Rattle.position.specs.declared.place.LoopPoint.TheVariants.{None, At}
 use Rattle.position.specs.Position.{loop_length, loops, bounced, looped, position_of}
 use Rattle.position.specs.Rest.{loopback_in_force}
 use Rattle.position.specs.Laws.{Moves}
@@ -264,14 +264,14 @@ module _ (q : ℕ) (Q : q ≤ 30) where
         twice : {a d : ℕ} → a ≤ d → a ≤ 2 * d
         twice h = omega arith
 
-  forward_differ : (l w : Float) → LoopIn (At l) → T (fits binary64 w) → T (positive w) → T (le (f64 1 (2 ^ q)) w) → T (le w one_float)
+  forward_differ : (l w : Float) → LoopIn (Some l) → T (fits binary64 w) → T (positive w) → T (le (f64 1 (2 ^ q)) w) → T (le w one_float)
       → Differ (λ k. add binary64 l (rem_euclid binary64 (more k) w))
   forward_differ l w i f u h k =
       once_differ w f u h k (add binary64 l)
       (λ (x y : Float) (s : Spread p 2 x y) (X : In w x) (Y : In w y).
       spread_apart (suc p) 3 (add binary64 l x) (add binary64 l y) (fine_1 3 (lit≤ tt)) (spread_add p 2 x y fine_0 s l i.0 i.1 X.0 Y.0))
 
-  reverse_differ : (l : Float) → LoopIn (At l) → T (positive l) → T (le (f64 1 (2 ^ q)) l) → Differ (λ k. sub binary64 l (rem_euclid binary64 (more k) l))
+  reverse_differ : (l : Float) → LoopIn (Some l) → T (positive l) → T (le (f64 1 (2 ^ q)) l) → Differ (λ k. sub binary64 l (rem_euclid binary64 (more k) l))
   reverse_differ l i u h =
       let k = i.1.1 in
       once_differ l i.0 u h k (sub binary64 l)
@@ -280,7 +280,7 @@ module _ (q : ℕ) (Q : q ≤ 30) where
       (spread_less p 2 x y fine_0 s l (num l) (den l) (den_pos l) (own_value l u) (at_most l i.0 u h k) X.0 Y.0 Y.1) (sym e))
 
   -- there and back, each way w
-  module _ (l : Float) (i : LoopIn (At l)) (m : ℕ) (g : ℤ) (f : T (fits binary64 (fin false m g))) (u : T (positive (fin false m g))) (h : T (le (f64 1 (2 ^ q)) (fin false m g)))
+  module _ (l : Float) (i : LoopIn (Some l)) (m : ℕ) (g : ℤ) (f : T (fits binary64 (fin false m g))) (u : T (positive (fin false m g))) (h : T (le (f64 1 (2 ^ q)) (fin false m g)))
       (k : T (le (fin false m g) one_float)) where
     abbrev w : Float
     w = fin false m g
@@ -350,7 +350,7 @@ module _ (q : ℕ) (Q : q ≤ 30) where
         side : ℕ → Bool
         side k = lt (rem_euclid binary64 (more k) t) w
 
-  ping_pong_differ : (l w : Float) → LoopIn (At l) → T (fits binary64 w) → T (positive w) → T (le (f64 1 (2 ^ q)) w) → T (le w one_float)
+  ping_pong_differ : (l w : Float) → LoopIn (Some l) → T (fits binary64 w) → T (positive w) → T (le (f64 1 (2 ^ q)) w) → T (le w one_float)
       → Differ (λ k. bounced l w (rem_euclid binary64 (more k) (mul binary64 two_float w)))
   ping_pong_differ l nan i f u h k = absurd u
   ping_pong_differ l (inf s) i f u h k = absurd u
@@ -360,11 +360,11 @@ module _ (q : ℕ) (Q : q ≤ 30) where
   -- ---- of two counts with different positions one has another than c
 
   module _ (d : Direction) (l c : Float) (k : T (loops d l)) (h : T (le c (f64 (2 ^ (50 - q)) 1))) where
-    placed : (j : ℕ) → j ≤ 4 → position_of OneShot d (count j) (At l) ≡ looped d (count j) l
+    placed : (j : ℕ) → j ≤ 4 → position_of OneShot d (count j) (Some l) ≡ looped d (count j) l
     unfolding loopback_in_force of_bits
     placed j J = position_loops d (count j) l ∙ rw (is_true (le f64_1 (count j)) (from_one j J), is_true (loops d l) k)
 
-    moves_to : (j : ℕ) → j ≤ 4 → (looped d (count j) l ≡ position_of OneShot d c (At l) → ⊥) → Moves OneShot d (At l) c
+    moves_to : (j : ℕ) → j ≤ 4 → (looped d (count j) l ≡ position_of OneShot d c (Some l) → ⊥) → Moves OneShot d (Some l) c
     moves_to j J n =
         record {
           later = count j;
@@ -374,9 +374,9 @@ module _ (q : ℕ) (Q : q ≤ 30) where
           elsewhere = λ e. n (sym (placed j J) ∙ e);
         }
 
-    one_moves : Differ (λ j. looped d (count j) l) → Moves OneShot d (At l) c
+    one_moves : Differ (λ j. looped d (count j) l) → Moves OneShot d (Some l) c
     one_moves s =
-        elim (same_or_not (looped d (count s.first) l) (position_of OneShot d c (At l))) [
+        elim (same_or_not (looped d (count s.first) l) (position_of OneShot d c (Some l))) [
           | inl e ↦ moves_to s.second s.second_in (λ n. s.apart (e ∙ sym n))
           | inr n ↦ moves_to s.first s.first_in n
         ]
@@ -403,7 +403,7 @@ eps_long = tt
 pub in_force_moves : InForceMoves
 unfolding loopback_in_force
 in_force_moves Drawn d None c i e h = absurd (false≢true e)
-in_force_moves Drawn d (At l) c i e h =
+in_force_moves Drawn d (Some l) c i e h =
     let k = yes_so e in loop_moves d l c 30 (lit≤ tt) i k (le_trans_at (f64 1 (2 ^ 30)) f64_eps (loop_length d l) eps_long (lt→le f64_eps (loop_length d l) k)) h
 in_force_moves Path d l c i e h = absurd (false≢true e)
 in_force_moves Lorenz d l c i e h = absurd (false≢true e)

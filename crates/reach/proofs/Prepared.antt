@@ -1,4 +1,5 @@
 -- What `prepare` makes of a transport in range: a block of `BlockIn`, as the laws of proofs/Reach.antt need it. Assumes nothing.
+use Rattle.std.specs.Prelude.{Option, None}
 use mathlib.Core.Path.{refl, sym, ◌∙◌, subst}
 use mathlib.Core.Logic.{inl, inr}
 use mathlib.Core.Bool.{Bool, true, false, not, ◌&&◌, cond, true≢false}
@@ -34,7 +35,6 @@ use Rattle.settings.proofs.Knob.{half_le}
 use Rattle.clock.specs.Pace.{tempo_of, cycles_by, cycles_of, per_sample, limit_of, limited, pace_of, lock_of, song_lock_of}
 use Rattle.clock.specs.Ready.{phase_of, snapped, start_phase, pace_at, lock_at, block_of, prepared_of}
 use Rattle.clock.specs.declared.block.SongLock.{SongLock}
-use Rattle.clock.specs.declared.block.SongLock.TheVariants as SongLock
 use Rattle.clock.specs.declared.pace.Cycles.{Cycles}
 use Rattle.clock.specs.declared.pace.Cycles.TheVariants.{PerBeat, PerSecond}
 use Rattle.clock.specs.declared.pace.Tempo.{Tempo}
@@ -352,6 +352,6 @@ prepared_in s k t n I J =
       rate_in = T.rate_least;
     }
   where
-    locked : (b : Bool) (l : SongLock) → LockIn l → LockIn (cond b l SongLock.None)
+    locked : (b : Bool) (l : Option SongLock) → LockIn l → LockIn (cond b l None)
     locked true l i = i
     locked false l i = tt

@@ -1,4 +1,5 @@
 -- Position lies from 0 to 1, both included: for every finite count, every mode and direction, and every loopback from 0 to 1. Assumes nothing.
+use Rattle.std.specs.Prelude.{None, Option, Some}
 use mathlib.Core.Path.{subst}
 use mathlib.Core.Bool.{Bool, true, false, not, ◌&&◌, ◌||◌, cond}
 use Prim.Native.Nat.{ℕ, ◌*◌, ◌<◌}
@@ -25,8 +26,6 @@ use Rattle.settings.specs.declared.choices.Mode.TheVariants.{Free, Restart, OneS
 use Rattle.settings.specs.declared.choices.Direction.{Direction}
 use Rattle.settings.specs.declared.choices.Direction.TheVariants.{Forward, Reverse, PingPong}
 use Rattle.position.specs.Position.{odd_cycle, cyclic_of, into_cycle, floor_of, forward_loop, forward_once, reverse_loop, reverse_once, back_once, bounced, ping_pong_loop, ping_pong_once}
-use Rattle.position.specs.declared.place.LoopPoint.{LoopPoint}
-use Rattle.position.specs.declared.place.LoopPoint.TheVariants.{None, At}
 use Rattle.reach.specs.Bounds.{LoopIn}
 use Rattle.reach.specs.Laws.{PositionIn, NarrowedIn}
 use Rattle.floatlaws.proofs.NoNan.{finite_number}
@@ -149,10 +148,10 @@ module _ (c : Float) (C : Count c) (from : T (le one_float c)) where
   more_finite : T (finite more)
   more_finite = (less_one c C.held C.bounded from).0
 
-  forward_loop_in : (l : LoopPoint) → LoopIn l → InUnit (forward_loop c l)
+  forward_loop_in : (l : Option Float) → LoopIn l → InUnit (forward_loop c l)
   unfolding forward_loop of_bits
   forward_loop_in None i = unit_one
-  forward_loop_in (At l) i =
+  forward_loop_in (Some l) i =
       let w = sub binary64 one_float l in
       let u = complement l i.1 in
       either (lt f64_eps w) (add binary64 l (rem_euclid binary64 more w)) one_float
@@ -161,10 +160,10 @@ module _ (c : Float) (C : Count c) (from : T (le one_float c)) where
       beside l (rem_euclid binary64 more w) w i.1 r.0 r.1 (unit_finite w u) (from_one l i.0 i.1))
       (λ (h : T (not (lt f64_eps w))). unit_one)
 
-  reverse_loop_in : (l : LoopPoint) → LoopIn l → InUnit (reverse_loop c l)
+  reverse_loop_in : (l : Option Float) → LoopIn l → InUnit (reverse_loop c l)
   unfolding reverse_loop of_bits
   reverse_loop_in None i = unit_zero
-  reverse_loop_in (At l) i =
+  reverse_loop_in (Some l) i =
       either (lt f64_eps l) (sub binary64 l (rem_euclid binary64 more l)) zero_float
       (λ (h : T (lt f64_eps l)).
       let r = euclid_within binary64 more l more_finite (above_eps l h i.1.1) i.0 in
@@ -182,10 +181,10 @@ module _ (c : Float) (C : Count c) (from : T (le one_float c)) where
       ))
       (λ (h : T (not (lt c two_float))). unit_zero)
 
-  ping_pong_loop_in : (l : LoopPoint) → LoopIn l → InUnit (ping_pong_loop c l)
+  ping_pong_loop_in : (l : Option Float) → LoopIn l → InUnit (ping_pong_loop c l)
   unfolding ping_pong_loop of_bits
   ping_pong_loop_in None i = back_in
-  ping_pong_loop_in (At l) i =
+  ping_pong_loop_in (Some l) i =
       let w = sub binary64 one_float l in
       let u = complement l i.1 in
       either (lt f64_eps w) (bounced l w (rem_euclid binary64 more (mul binary64 two_float w))) (back_once c)
@@ -194,7 +193,7 @@ module _ (c : Float) (C : Count c) (from : T (le one_float c)) where
 
 -- ---- a One-shot
 
-module _ (c : Float) (C : Count c) (l : LoopPoint) (i : LoopIn l) where
+module _ (c : Float) (C : Count c) (l : Option Float) (i : LoopIn l) where
   below_one : T (lt c one_float) → InUnit c
   below_one h = (C.from_zero, lt→le c one_float h)
 

@@ -1,6 +1,7 @@
 -- How far a count gets: the facts of specs/Bounds.antt hold of a new player and are kept, and what they say of a count. A voice that has played `frames` frames has a
 -- count of at most 2 ^ 45 + frames in size, and so is where it is anchored anew; a count under song lock is below 2 ^ 45. Within 2 ^ 40 frames a count is below 2 ^ 46,
 -- so it is finite. Assumes nothing.
+use Rattle.std.specs.Prelude.{Option, None, Some}
 use mathlib.Core.Path.{◌≡◌, refl}
 use mathlib.Core.Bool.{Bool, true, false, ◌||◌, cond}
 use Prim.Native.Nat.{ℕ, ◌+◌, ◌-◌, ◌*◌, ◌^◌, ◌≤◌, zero-le}
@@ -86,10 +87,10 @@ module _ (b : Block) (B : BlockIn b) where
   unfolding started_of
   started_in f = go b.song_lock B.lock_in
     where
-      go : (l : SongLock) → LockIn l → AnchorIn f (started_by l b)
-      go SongLock.None i = (zero-le, size_more (le_trans (lit≤ tt) (le-add_right (2 ^ 45) (f - 0))) B.phase_in, B.inc_in)
-      go (SongLock.Beats rate) i = (B.phase_in, zero_size, i)
-      go (SongLock.Seconds rate) i = (B.phase_in, zero_size, i)
+      go : (l : Option SongLock) → LockIn l → AnchorIn f (started_by l b)
+      go None i = (zero-le, size_more (le_trans (lit≤ tt) (le-add_right (2 ^ 45) (f - 0))) B.phase_in, B.inc_in)
+      go (Some (SongLock.Beats rate)) i = (B.phase_in, zero_size, i)
+      go (Some (SongLock.Seconds rate)) i = (B.phase_in, zero_size, i)
 
   -- ---- at sample k of a block
 
@@ -122,16 +123,16 @@ module _ (b : Block) (B : BlockIn b) where
       unfolding begun_of
       begun_in a i = go b.song_lock B.lock_in a i
         where
-          go : (l : SongLock) → LockIn l → (a : Anchor) → AnchorIn f a → AnchorIn f (begun_by l a b k)
-          go SongLock.None j (Samples c0 n inc) i = either (eq inc b.inc) (Samples c0 n inc) (from_here (Samples c0 n inc) b k) i (here_in (Samples c0 n inc) i)
-          go SongLock.None j (Beats c0 b0 rate) i = here_in (Beats c0 b0 rate) i
-          go SongLock.None j (Seconds c0 s0 rate) i = here_in (Seconds c0 s0 rate) i
-          go (SongLock.Beats rate) j (Samples c0 n inc) i = (B.phase_in, zero_size, j)
-          go (SongLock.Beats rate) j (Beats c0 b0 p) i = either (is_grounded b0 p rate c0 b.phase) (Beats c0 b0 p) (locked_beats b.phase rate) i (B.phase_in, zero_size, j)
-          go (SongLock.Beats rate) j (Seconds c0 s0 p) i = (B.phase_in, zero_size, j)
-          go (SongLock.Seconds rate) j (Samples c0 n inc) i = (B.phase_in, zero_size, j)
-          go (SongLock.Seconds rate) j (Beats c0 b0 p) i = (B.phase_in, zero_size, j)
-          go (SongLock.Seconds rate) j (Seconds c0 s0 p) i = either (is_grounded s0 p rate c0 b.phase) (Seconds c0 s0 p) (locked_seconds b.phase rate) i (B.phase_in, zero_size, j)
+          go : (l : Option SongLock) → LockIn l → (a : Anchor) → AnchorIn f a → AnchorIn f (begun_by l a b k)
+          go None j (Samples c0 n inc) i = either (eq inc b.inc) (Samples c0 n inc) (from_here (Samples c0 n inc) b k) i (here_in (Samples c0 n inc) i)
+          go None j (Beats c0 b0 rate) i = here_in (Beats c0 b0 rate) i
+          go None j (Seconds c0 s0 rate) i = here_in (Seconds c0 s0 rate) i
+          go (Some (SongLock.Beats rate)) j (Samples c0 n inc) i = (B.phase_in, zero_size, j)
+          go (Some (SongLock.Beats rate)) j (Beats c0 b0 p) i = either (is_grounded b0 p rate c0 b.phase) (Beats c0 b0 p) (locked_beats b.phase rate) i (B.phase_in, zero_size, j)
+          go (Some (SongLock.Beats rate)) j (Seconds c0 s0 p) i = (B.phase_in, zero_size, j)
+          go (Some (SongLock.Seconds rate)) j (Samples c0 n inc) i = (B.phase_in, zero_size, j)
+          go (Some (SongLock.Seconds rate)) j (Beats c0 b0 p) i = (B.phase_in, zero_size, j)
+          go (Some (SongLock.Seconds rate)) j (Seconds c0 s0 p) i = either (is_grounded s0 p rate c0 b.phase) (Seconds c0 s0 p) (locked_seconds b.phase rate) i (B.phase_in, zero_size, j)
 
 -- ---- the free clock, in a player that has played `frames` frames before a block
 
@@ -169,9 +170,9 @@ module _ (k : Clock) (inc : Float) (tempo : Tempo) (beats seconds : Float) (f n 
         next_in = size_more (le-add_right (2 ^ 45) (f + n)) i;
       }
 
-  pub ticked_in : (l : SongLock) → LockIn l → FreeIn f (ticked_of k l inc tempo beats seconds n).free × ClockIn (f + n) (ticked_of k l inc tempo beats seconds n).clock
+  pub ticked_in : (l : Option SongLock) → LockIn l → FreeIn f (ticked_of k l inc tempo beats seconds n).free × ClockIn (f + n) (ticked_of k l inc tempo beats seconds n).clock
   unfolding ticked_of
-  ticked_in SongLock.None i =
+  ticked_in None i =
       let a = anchored_in k inc f I in
       let m = (anchored_clock k inc).n in (
         a,
@@ -184,9 +185,9 @@ module _ (k : Clock) (inc : Float) (tempo : Tempo) (beats seconds : Float) (f n 
     where
       same : (f m n c : ℕ) → c + (f - m) ≤ c + (f + n - (m + n))
       same f m n c = omega arith
-  ticked_in (SongLock.Beats p) i =
+  ticked_in (Some (SongLock.Beats p)) i =
       (i, followed_in (FreeClock.Beats p) _ (size_more (lit≤ tt) (mul_size (lit≤ tt) (add_size (lit≤ tt) U (mul_size (lit≤ tt) (size_more N (count_size n (le_trans N (lit≤ tt)))) P)) i)))
-  ticked_in (SongLock.Seconds h) i =
+  ticked_in (Some (SongLock.Seconds h)) i =
       (i, followed_in (FreeClock.Seconds h) _ (size_more (lit≤ tt) (mul_size (lit≤ tt) (add_size (lit≤ tt) W (div_size 4096 (zero-lt-suc 0) (lit≤ tt) (lit≤ tt) (size_more N (count_size n (le_trans N (lit≤ tt)))) Q)) i)))
 
 -- ---- the count at sample k of a block, before swing

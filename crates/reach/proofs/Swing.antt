@@ -1,4 +1,5 @@
 -- A swung count is finite: swing's first share lies from 1/2 to 3/4, so no quotient of `swung_of` is more than twice its count. Assumes nothing.
+use Rattle.std.specs.Prelude.{None, Option, Some}
 use mathlib.Core.Path.{◌≡◌, refl, subst}
 use mathlib.Core.Bool.{Bool, true, false, not, ◌&&◌, cond}
 use Prim.Native.Nat.{ℕ, suc, ◌+◌, ◌*◌, ◌/◌, ◌%◌, ◌^◌, ◌≤◌, zero-le}
@@ -16,8 +17,6 @@ use Rattle.floatlaws.proofs.Mono.{add_mono, sub_mono, round_le}
 use Rattle.floatlaws.specs.Numbers.{f32_0, f32_1}
 use Rattle.clock.specs.Pace.{first_of, swing_of}
 use Rattle.position.specs.Position.{floor_of, into_pair, pairs_of, swung_of, swung_by}
-use Rattle.position.specs.declared.swing.Swing.{Swing}
-use Rattle.position.specs.declared.swing.Swing.TheVariants.{Off, First}
 use Rattle.clock.specs.declared.pace.Cycles.TheVariants.{PerBeat, PerSecond}
 use Rattle.floatlaws.proofs.Unit.{zero_float, half_float, one_float, two_float}
 use Rattle.floatlaws.specs.Size.{Sized, Size, AtLeast}
@@ -151,9 +150,9 @@ swung_size c first C i =
     either false h k = k
 
 pub swung_in : SwungIn
-swung_in Off c C i = size_more (lit≤ tt) C
-swung_in (First first) c C i = swung_size c first C i
+swung_in None c C i = size_more (lit≤ tt) C
+swung_in (Some first) c C i = swung_size c first C i
 
-pub swung_fits : (w : Swing) (c : Float) → T (fits binary64 c) → T (fits binary64 (swung_by w c))
-swung_fits Off c t = t
-swung_fits (First first) c t = unfold swung_of in add-fits binary64 (pairs_of c) _
+pub swung_fits : (w : Option Float) (c : Float) → T (fits binary64 c) → T (fits binary64 (swung_by w c))
+swung_fits None c t = t
+swung_fits (Some first) c t = unfold swung_of in add-fits binary64 (pairs_of c) _

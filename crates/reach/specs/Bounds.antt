@@ -10,7 +10,7 @@
 -- counts on though nothing reads it), and keeps `AnchorIn (f + k)` where it is begun (`begun_in`) or restarted (`started_in`). Nothing is asked of the settings and
 -- the transport of earlier blocks, so both may change at will, within what the questions accept: `SettingsIn` and `TransportIn` are what is left of those, once
 -- more for each block. Where f stays within 2 ^ 40, every count, swung or not, is finite and at most 2 ^ 50 in size (`CountIn` of Laws.antt). Assumes nothing.
-use Rattle.std.specs.Prelude.{ℕ, ◌+◌, ◌-◌, ◌^◌, ◌≤◌, ◌<◌, false, not, T, negsuc, Float}
+use Rattle.std.specs.Prelude.{ℕ, ◌+◌, ◌-◌, ◌^◌, ◌≤◌, ◌<◌, false, not, T, negsuc, Float, None, Option, Some}
 use Rattle.std.specs.Float.{fin, binary64}
 use Rattle.std.specs.Float.Ieee.{fits, is_nan}
 use Rattle.std.specs.Float.Ieee.Scale.{finite}
@@ -23,10 +23,6 @@ use Rattle.settings.specs.declared.times.Scale.{Scale}
 use Rattle.settings.specs.declared.times.Scale.TheVariants as Scale
 use Rattle.settings.specs.declared.record.Settings.{Settings}
 use Rattle.settings.specs.declared.record.Transport.{Transport}
-use Rattle.position.specs.declared.swing.Swing.{Swing}
-use Rattle.position.specs.declared.swing.Swing.TheVariants as Swing
-use Rattle.position.specs.declared.place.LoopPoint.{LoopPoint}
-use Rattle.position.specs.declared.place.LoopPoint.TheVariants as LoopPoint
 use Rattle.clock.specs.declared.block.Block.{Block}
 use Rattle.clock.specs.declared.block.FreeClock.{FreeClock}
 use Rattle.clock.specs.declared.block.FreeClock.TheVariants as FreeClock
@@ -73,16 +69,16 @@ pub record TransportIn (t : Transport) : Type 0 where
   pub percent_number : PercentNumber t.scale
 
 -- a loopback from 0 to 1
-abbrev pub LoopIn : LoopPoint → Type 0
-LoopIn LoopPoint.None = Unit
-LoopIn (LoopPoint.At l) = T (fits binary64 l) × InUnit l
+abbrev pub LoopIn : Option Float → Type 0
+LoopIn None = Unit
+LoopIn (Some l) = T (fits binary64 l) × InUnit l
 
 -- ---- what `prepare` makes of them: rates of at most 2,560 cycles a beat and 10,000 cycles a second, and a song position within 2 ^ 31
 
-abbrev pub LockIn : SongLock → Type 0
-LockIn SongLock.None = Unit
-LockIn (SongLock.Beats rate) = Size rate 2560
-LockIn (SongLock.Seconds rate) = Size rate 10000
+abbrev pub LockIn : Option SongLock → Type 0
+LockIn None = Unit
+LockIn (Some (SongLock.Beats rate)) = Size rate 2560
+LockIn (Some (SongLock.Seconds rate)) = Size rate 10000
 
 pub record BlockIn (b : Block) : Type 0 where
   pub inc_in : Size b.inc 1
@@ -103,6 +99,6 @@ FreeIn frames (FreeClock.Counting c0 n) = (n ≤ frames) × Size c0 (2 ^ 45 + (f
 abbrev pub ShareIn : Float → Type 0
 ShareIn first = Between (fin false 1 (negsuc 0)) first (fin false 3 (negsuc 1))
 
-abbrev pub SwingIn : Swing → Type 0
-SwingIn Swing.Off = Unit
-SwingIn (Swing.First first) = ShareIn first
+abbrev pub SwingIn : Option Float → Type 0
+SwingIn None = Unit
+SwingIn (Some first) = ShareIn first

@@ -1,7 +1,7 @@
 -- What document 01 says of swing, position and spans, of every count, block and clock within the bounds of Bounds.antt; crate reached has it of every player.
 -- And up to which count a loop is known not to come to rest (document 02, W-204). Proved in proofs/Range.antt, proofs/Moving.antt, proofs/Swing.antt, proofs/Limit.antt,
 -- proofs/Stopped.antt and proofs/Frame.antt. Assumes nothing.
-use Rattle.std.specs.Prelude.{ℕ, ◌+◌, ◌-◌, ◌^◌, ◌≤◌, ◌≡◌, Bool, not, true, false, T, pos, Float}
+use Rattle.std.specs.Prelude.{ℕ, ◌+◌, ◌-◌, ◌^◌, ◌≤◌, ◌≡◌, Bool, not, true, false, T, pos, Float, Option, Some}
 use Rattle.std.specs.Float.{fin, binary32, binary64}
 use Rattle.std.specs.Float.Ieee.{le, fits, is_nan}
 use Rattle.std.specs.Float.Ieee.Scale.{finite}
@@ -21,9 +21,6 @@ use Rattle.settings.specs.declared.record.Transport.{Transport}
 use Rattle.position.specs.Position.{swung_by, loop_length, loops, position_of}
 use Rattle.position.specs.Rest.{loopback_in_force}
 use Rattle.position.specs.Laws.{Moves}
-use Rattle.position.specs.declared.swing.Swing.{Swing}
-use Rattle.position.specs.declared.place.LoopPoint.{LoopPoint}
-use Rattle.position.specs.declared.place.LoopPoint.TheVariants.{At}
 use Rattle.clock.specs.Anchor.{cycles_at}
 use Rattle.clock.specs.Pace.{limit_of, swing_of}
 use Rattle.clock.specs.Spans.{samples_of}
@@ -37,7 +34,7 @@ use Rattle.reach.specs.Bounds.{AnchorIn, ClockIn, SettingsIn, TransportIn, LoopI
 -- ---- "position lies in 0 to 1, both included": for every finite count, every mode and direction, and every loopback from 0 to 1
 
 abbrev pub PositionIn : Type 0
-PositionIn = (m : Mode) (d : Direction) (c : Float) (l : LoopPoint) → T (fits binary64 c) → T (finite c) → LoopIn l → InUnit (position_of m d c l)
+PositionIn = (m : Mode) (d : Direction) (c : Float) (l : Option Float) → T (fits binary64 c) → T (finite c) → LoopIn l → InUnit (position_of m d c l)
 
 -- "Position becomes f32": it stays in 0 to 1
 abbrev pub NarrowedIn : Type 0
@@ -49,13 +46,13 @@ NarrowedIn = (x : Float) → InUnit x → InUnit (narrowed binary32 x)
 -- and up to 2^46 in one of 1/16 or more. Counts are f64s, so it does not go on for ever: going forward with l = 1 − 2^−24 every finite count from 2^28 on is at l.
 abbrev pub LoopMoves : Type 0
 LoopMoves =
-    (d : Direction) (l c : Float) (q : ℕ) → q ≤ 30 → LoopIn (At l) → T (loops d l) → T (le (f64 1 (2 ^ q)) (loop_length d l)) → T (le c (f64 (2 ^ (50 - q)) 1))
-    → Moves OneShot d (At l) c
+    (d : Direction) (l c : Float) (q : ℕ) → q ≤ 30 → LoopIn (Some l) → T (loops d l) → T (le (f64 1 (2 ^ q)) (loop_length d l)) → T (le c (f64 (2 ^ (50 - q)) 1))
+    → Moves OneShot d (Some l) c
 
 -- in every loop
 abbrev pub InForceMoves : Type 0
 InForceMoves =
-    (kind : LfoType) (d : Direction) (l : LoopPoint) (c : Float) → LoopIn l → loopback_in_force kind d l ≡ true → T (le c (f64 (2 ^ 20) 1))
+    (kind : LfoType) (d : Direction) (l : Option Float) (c : Float) → LoopIn l → loopback_in_force kind d l ≡ true → T (le c (f64 (2 ^ 20) 1))
     → Moves OneShot d l c
 
 -- ---- swing
@@ -66,7 +63,7 @@ SwingRule = (c : Cycles) (set : Bool) (amount : Float) → T (not (is_nan amount
 
 -- so a swung count is finite
 abbrev pub SwungIn : Type 0
-SwungIn = (w : Swing) (c : Float) → Size c (2 ^ 46) → SwingIn w → Size (swung_by w c) (2 ^ 50)
+SwungIn = (w : Option Float) (c : Float) → Size c (2 ^ 46) → SwingIn w → Size (swung_by w c) (2 ^ 50)
 
 -- ---- increments and spans
 
@@ -100,10 +97,10 @@ abbrev pub CountFits : Type 0
 CountFits = EachFrame λ m count. T (fits binary64 count)
 
 abbrev pub FrameIn : Type 0
-FrameIn = EachFrame λ m count. (d : Direction) (l : LoopPoint) → LoopIn l → InUnit (position_of m d count l)
+FrameIn = EachFrame λ m count. (d : Direction) (l : Option Float) → LoopIn l → InUnit (position_of m d count l)
 
 abbrev pub FrameNarrowed : Type 0
-FrameNarrowed = EachFrame λ m count. (d : Direction) (l : LoopPoint) → LoopIn l → InUnit (narrowed binary32 (position_of m d count l))
+FrameNarrowed = EachFrame λ m count. (d : Direction) (l : Option Float) → LoopIn l → InUnit (narrowed binary32 (position_of m d count l))
 
 -- the phase that is read between two blocks
 abbrev pub PhaseReadIn : Type 0

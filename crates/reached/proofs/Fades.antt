@@ -1,4 +1,5 @@
 -- A voice keeps its delay and fade up to a restart, and a voice never restarted has none: full fade. Assumes nothing.
+use Rattle.std.specs.Prelude.{None, Option, Some}
 use Prim.Native.Nat.{ℕ, zero, suc, zero-le, ◌-◌}
 use mathlib.Core.Path.{◌≡◌, refl, sym, ◌∙◌, subst}
 use mathlib.Core.Bool.{Bool, true, false, ◌&&◌, ◌||◌, cond, false≢true}
@@ -7,11 +8,7 @@ use borrow.Author.Tests.{le-ltb, le-leb}
 use lib.Ieee.{Float}
 use Rattle.floatlaws.specs.Numbers.{f32_1}
 use Rattle.settings.specs.declared.record.Settings.{Settings}
-use Rattle.settings.specs.declared.record.SettingsCode.{SettingsCode}
-use Rattle.settings.specs.declared.record.SettingsCode.TheVariants as SettingsCode
 use Rattle.codes.specs.declared.SettingsCodes.{SettingsCodes}
-use Rattle.settings.specs.declared.record.TransportCode.{TransportCode}
-use Rattle.settings.specs.declared.record.TransportCode.TheVariants as TransportCode
 use Rattle.settings.specs.Codes.{settings_at, transport_at}
 use Rattle.clock.specs.declared.block.Block.{Block}
 use Rattle.voice.specs.declared.Voice.{Voice}
@@ -20,7 +17,6 @@ use Rattle.voice.specs.Curve.{Curve}
 use Rattle.voice.specs.Frame.{frame_of}
 use Rattle.voice.specs.Output.{gain_of, posted}
 use Rattle.voice.specs.Voice.{new_voice, begun_voice}
-use Rattle.bank.specs.declared.parts.Pending.TheVariants.{None}
 use Rattle.bank.specs.Render.{voice_after}
 use Rattle.bank.specs.Parts.{begun, parts_voice}
 use Rattle.curves.specs.Given.{is_yes}
@@ -35,6 +31,7 @@ use Rattle.reached.specs.Players.{carries, restart_in, NeverRestarted}
 use Rattle.reached.specs.Frames.{FullFade}
 use Rattle.reached.proofs.Traces.{history_state}
 use Rattle.reached.proofs.Frames.{voice_first}
+use Rattle.settings.specs.declared.record.Transport.{Transport}
 
 -- ---- delay and fade over a stretch
 
@@ -67,10 +64,10 @@ full_begun s q b frames n v f =
 -- ---- of a player
 
 -- as it is made
-full_new : (seed : ℕ) (c : SettingsCode) → Full (by_settings (no_player seed) c (λ s. new_state s seed)).voice
+full_new : (seed : ℕ) (c : Option Settings) → Full (by_settings (no_player seed) c (λ s. new_state s seed)).voice
 unfolding new_state new_voice
-full_new seed (SettingsCode.Known s) = record { no_delay = refl; no_fade = refl }
-full_new seed SettingsCode.Unknown = record { no_delay = refl; no_fade = refl }
+full_new seed (Some s) = record { no_delay = refl; no_fade = refl }
+full_new seed None = record { no_delay = refl; no_fade = refl }
 
 full_made : (c : SettingsCodes) (seed : ℕ) → Full (made c seed).voice
 unfolding made
@@ -78,18 +75,18 @@ full_made c seed = go (makes c)
   where
     go : (b : Bool) → Full (cond b (by_settings (no_player seed) (settings_at c) (λ s. new_state s seed)) (no_player seed)).voice
     go true = full_new seed (settings_at c)
-    go false = full_new seed SettingsCode.Unknown
+    go false = full_new seed None
 
 -- as a call that restarts nothing leaves it
-full_set : (p : State) (c : SettingsCode) → Full p.voice → Full (by_settings p c (with_settings p)).voice
+full_set : (p : State) (c : Option Settings) → Full p.voice → Full (by_settings p c (with_settings p)).voice
 unfolding with_settings
-full_set p (SettingsCode.Known s) f = f
-full_set p SettingsCode.Unknown f = f
+full_set p (Some s) f = f
+full_set p None f = f
 
-full_played : (p : State) (c : TransportCode) (n : ℕ) → Full p.voice → Full (by_transport p c (λ t. played_state p t n None)).voice
+full_played : (p : State) (c : Option Transport) (n : ℕ) → Full p.voice → Full (by_transport p c (λ t. played_state p t n None)).voice
 unfolding played_state parts_voice
-full_played p (TransportCode.Known t) n f = full_begun _ _ _ n n p.voice f
-full_played p TransportCode.Unknown n f = f
+full_played p (Some t) n f = full_begun _ _ _ n n p.voice f
+full_played p None n f = f
 
 none_pending : (c : RestartCodes) → is_yes c.code ≡ false → pending_of c ≡ None
 unfolding pending_of

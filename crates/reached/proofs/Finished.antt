@@ -1,4 +1,5 @@
 -- Where a block says finished, position is at rest, and where it does not, it is not. Assumes nothing.
+use Rattle.std.specs.Prelude.{None, Option, Some}
 use Prim.Native.Nat.{ℕ, zero, suc, ◌+◌, ◌-◌, ◌^◌, ◌≤◌, ◌<◌, min}
 use mathlib.Core.Path.{◌≡◌, refl, sym, ap, ◌∙◌, subst}
 use mathlib.Core.Logic.{◌⊎◌, inl, inr}
@@ -22,8 +23,6 @@ use Rattle.settings.specs.declared.choices.Direction.TheVariants.{Forward, Rever
 use Rattle.settings.specs.declared.record.Settings.{Settings}
 use Rattle.settings.specs.declared.record.Transport.{Transport}
 use Rattle.clock.specs.declared.block.Block.{Block}
-use Rattle.position.specs.declared.place.LoopPoint.{LoopPoint}
-use Rattle.position.specs.declared.place.LoopPoint.TheVariants as LoopPoint
 use Rattle.position.specs.Rest.{loopback_in_force, finished_from, finished_of}
 use Rattle.position.specs.Laws.{ReadsAt}
 use Rattle.position.proofs.Resting.{finished_rests, unfinished_moves}
@@ -32,8 +31,6 @@ use Rattle.reach.proofs.Moving.{in_force_moves}
 use Rattle.voice.specs.declared.Voice.{Voice}
 use Rattle.voice.specs.Curve.{Curve}
 use Rattle.voice.specs.Frame.{frame_of}
-use Rattle.bank.specs.declared.parts.Pending.{Pending}
-use Rattle.bank.specs.declared.parts.Pending.TheVariants.{None, At}
 use Rattle.bank.specs.Render.{last_count}
 use Rattle.bank.specs.Parts.{begun, restarted, parts_count}
 use Rattle.slot.specs.Moved.{loop_of, moved_curve}
@@ -60,7 +57,7 @@ block_says p t frames at a r x y plays = plays.finished_is ∙ rw (a.accepted, a
 
 -- ---- the last frame's count
 
-module _ (p : State) (t : Transport) (k : ℕ) (at : Pending) where
+module _ (p : State) (t : Transport) (k : ℕ) (at : Option ℕ) where
   abbrev s : Settings
   s = p.lfo.settings
 
@@ -104,24 +101,24 @@ module _ (p : State) (t : Transport) (k : ℕ) (at : Pending) where
       none_left : (a l : ℕ) → a ≡ l → l - a ≡ 0
       none_left a l e = omega arith
 
-restarted_last : (p : State) (t : Transport) (k i : ℕ) → end_count p t (suc k) (At i) ≡ (nth_frame p t (suc k) (At i) k).count
+restarted_last : (p : State) (t : Transport) (k i : ℕ) → end_count p t (suc k) (Some i) ≡ (nth_frame p t (suc k) (Some i) k).count
 unfolding parts_count
 restarted_last p t k i = go (ltb k (min i (suc k))) refl
   where
     whole : (m : ℕ) → k < m → m ≤ suc k → m ≡ suc k
     whole m a c = omega arith
 
-    go : (c : Bool) → ltb k (min i (suc k)) ≡ c → end_count p t (suc k) (At i) ≡ (nth_frame p t (suc k) (At i) k).count
+    go : (c : Bool) → ltb k (min i (suc k)) ≡ c → end_count p t (suc k) (Some i) ≡ (nth_frame p t (suc k) (Some i) k).count
     go true e =
         let h = ltb-true k (min i (suc k)) e in
         let m = whole (min i (suc k)) h (min-le_right i (suc k)) in
-        none_later p t k (At i) (min i (suc k)) _ _ m ∙ ap (λ (j : ℕ). last p t k (At i) 0 j (start p t k (At i)) f64_0) m ∙ whole_last p t k (At i) h
-    go false e = later_last p t k (At i) _ (ltb-false k (min i (suc k)) e)
+        none_later p t k (Some i) (min i (suc k)) _ _ m ∙ ap (λ (j : ℕ). last p t k (Some i) 0 j (start p t k (Some i)) f64_0) m ∙ whole_last p t k (Some i) h
+    go false e = later_last p t k (Some i) _ (ltb-false k (min i (suc k)) e)
 
 pub last_frame : LastFrame
 unfolding parts_count
 last_frame p t k None = whole_last p t k None (omega arith)
-last_frame p t k (At i) = restarted_last p t k i
+last_frame p t k (Some i) = restarted_last p t k i
 
 -- ---- a block of no frames
 
@@ -137,16 +134,16 @@ zero_below Lorenz d = refl
 zero_below Rossler d = refl
 zero_below SampleAndHold d = refl
 
-nothing : (kind : LfoType) (m : Mode) (d : Direction) (l : LoopPoint) → finished_of kind m d l f64_0 ≡ false
+nothing : (kind : LfoType) (m : Mode) (d : Direction) (l : Option Float) → finished_of kind m d l f64_0 ≡ false
 unfolding finished_of
 nothing kind Free d l = refl
 nothing kind Restart d l = refl
 nothing kind OneShot d l = ap (λ (b : Bool). not (loopback_in_force kind d l) && b) (zero_below kind d) ∙ and_false (not (loopback_in_force kind d l))
 
-empty_count : (p : State) (t : Transport) (at : Pending) → end_count p t 0 at ≡ f64_0
+empty_count : (p : State) (t : Transport) (at : Option ℕ) → end_count p t 0 at ≡ f64_0
 unfolding parts_count last_count
 empty_count p t None = refl
-empty_count p t (At i) = rw (min_zero i)
+empty_count p t (Some i) = rw (min_zero i)
   where
     min_zero : (i : ℕ) → min i 0 ≡ 0
     min_zero i = omega arith
@@ -158,7 +155,7 @@ no_frames p t at = let s = p.lfo.settings in rw (empty_count p t at) (nothing s.
 -- ---- what finished means
 
 -- the loopback that a drawn shape's frames read, and a path's
-reads_path : (lfo : Lfo) → (slot_curve Path lfo).from ≡ LoopPoint.None
+reads_path : (lfo : Lfo) → (slot_curve Path lfo).from ≡ None
 unfolding moved_curve loop_of
 reads_path lfo = refl
 
@@ -174,13 +171,13 @@ zero_counted : Counted f64_0
 unfolding fits is_nan of_bits
 zero_counted = (tt, tt)
 
-counted : (p : Player) (t : Transport) (frames : ℕ) (at : Pending) → History p → AcceptedBlock p t frames at → Counted (end_count (state_of p) t frames at)
+counted : (p : Player) (t : Transport) (frames : ℕ) (at : Option ℕ) → History p → AcceptedBlock p t frames at → Counted (end_count (state_of p) t frames at)
 counted p t zero at h a = subst Counted (sym (empty_count (state_of p) t at)) zero_counted
 counted p t (suc k) at h a =
     subst Counted (sym (last_frame (state_of p) t k at))
     (frame_counted (λ m c. T (fits binary64 c)) count_fits p t (suc k) h at a k (omega arith), finite_number _ (size_finite (frame_counted (λ m c. Size c (2 ^ 50)) count_in p t (suc k) h at a k (omega arith))))
 
-silent : (kind : LfoType) (m : Mode) (d : Direction) (l : LoopPoint) (c : Float) → loopback_in_force kind d l ≡ true → finished_of kind m d l c ≡ false
+silent : (kind : LfoType) (m : Mode) (d : Direction) (l : Option Float) (c : Float) → loopback_in_force kind d l ≡ true → finished_of kind m d l c ≡ false
 unfolding finished_of
 silent kind Free d l c e = refl
 silent kind Restart d l c e = refl

@@ -1,4 +1,5 @@
 -- The frames of a block are those that are written. Assumes nothing.
+use Rattle.std.specs.Prelude.{None, Option, Some}
 use Prim.Native.Nat.{ℕ, zero, suc, ◌+◌, ◌-◌, ◌≤◌, ◌<◌}
 use mathlib.Core.Path.{◌≡◌, refl, sym, ap, ap₂, ◌∙◌}
 use mathlib.Core.Bool.{Bool, true, false}
@@ -15,8 +16,6 @@ use Rattle.clock.specs.declared.block.Block.{Block}
 use Rattle.voice.specs.declared.Voice.{Voice}
 use Rattle.voice.specs.Curve.{Curve}
 use Rattle.voice.specs.Frame.{Frame, frame_of}
-use Rattle.bank.specs.declared.parts.Pending.{Pending}
-use Rattle.bank.specs.declared.parts.Pending.TheVariants.{None, At}
 use Rattle.bank.specs.Render.{voice_after, outs}
 use Rattle.bank.specs.Parts.{begun, restarted, parts_outs}
 use Rattle.calls.specs.State.{State}
@@ -25,7 +24,7 @@ use Rattle.reached.specs.Frames.{restart_frame, nth_voice, nth_frame, FramesWrit
 
 -- ---- the voice that plays a frame
 
-module _ (p : State) (t : Transport) (frames : ℕ) (at : Pending) where
+module _ (p : State) (t : Transport) (frames : ℕ) (at : Option ℕ) where
   abbrev s : Settings
   s = p.lfo.settings
 
@@ -109,4 +108,4 @@ module _ (p : State) (t : Transport) (frames : ℕ) (at : Pending) where
 pub frames_written : FramesWritten
 unfolding values parts_outs
 frames_written p t frames None f = first_outs p t frames None f
-frames_written p t frames (At i) f = all_outs p t frames (At i) f (min-le_right i frames)
+frames_written p t frames (Some i) f = all_outs p t frames (Some i) f (min-le_right i frames)

@@ -1,15 +1,14 @@
 -- What holds of every player that calls have reached, and of every block that it accepts. Assumes nothing.
+use Rattle.std.specs.Prelude.{Option, Some}
 use Prim.Native.Nat.{ℕ}
 use mathlib.Core.Path.{◌≡◌, refl}
 use lib.ListN.{length}
 use Rattle.settings.specs.declared.record.Transport.{Transport}
 use Rattle.codes.specs.declared.TransportCodes.{TransportCodes}
-use Rattle.settings.specs.declared.record.TransportCode.TheVariants as TransportCode
 use Rattle.settings.specs.Codes.{transport_at}
 use Rattle.floatlaws.proofs.Tests.{yes_so}
 use Rattle.settings.proofs.Read.{transport_of}
 use Rattle.reach.specs.Bounds.{TransportIn}
-use Rattle.bank.specs.declared.parts.Pending.{Pending}
 use Rattle.questions.proofs.Facts.{TransportAccepted, transport_is_in, BlockAccepted, block_accepted}
 use Rattle.calls.specs.Calls.{questions, answer}
 use Rattle.player.specs.declared.Player.{Player}
@@ -25,17 +24,17 @@ reached_valid h = valid_last h.trace (history_valid h)
 
 -- ---- the transport of a call that is accepted
 
-pub known_transport : (c : TransportCodes) → TransportAccepted c → (t : Transport) × (transport_at c ≡ TransportCode.Known t)
+pub known_transport : (c : TransportCodes) → TransportAccepted c → (t : Transport) × (transport_at c ≡ Some t)
 known_transport c a = transport_of c (yes_so a.known)
 
 -- ---- blocks
 
-pub block_facts : {p : Player} {t : Transport} {frames : ℕ} {at : Pending} (a : AcceptedBlock p t frames at)
+pub block_facts : {p : Player} {t : Transport} {frames : ℕ} {at : Option ℕ} (a : AcceptedBlock p t frames at)
     → BlockAccepted p.deck.played a.codes frames a.restart (length a.x) (length a.y)
 unfolding answer questions
 block_facts {p} {t} {frames} {at} a = block_accepted p.deck.played a.codes frames a.restart (length a.x) (length a.y) a.accepted
 
-pub transport_within : {p : Player} {t : Transport} {frames : ℕ} {at : Pending} → AcceptedBlock p t frames at → TransportIn t
+pub transport_within : {p : Player} {t : Transport} {frames : ℕ} {at : Option ℕ} → AcceptedBlock p t frames at → TransportIn t
 transport_within {p} {t} a = transport_is_in a.codes (block_facts a).transport t a.transport_is
 
 pub each_accepted : EachAccepted

@@ -1,4 +1,5 @@
 -- At tempo 0 a synced span of an accepted block is 10 ^ 15, and so is what a restart stores of it. Assumes nothing.
+use Rattle.std.specs.Prelude.{Some}
 use Prim.Native.Nat.{ℕ, zero, suc, ◌*◌, ◌<◌, min}
 use mathlib.Core.Path.{◌≡◌, refl, sym, ap, ◌∙◌, subst}
 use mathlib.Core.Bool.{Bool, true, false, ◌&&◌, ◌||◌, cond}
@@ -24,7 +25,6 @@ use Rattle.reach.specs.Bounds.{TransportIn}
 use Rattle.reach.proofs.Prepared.{tempo_of_lem}
 use Rattle.reach.proofs.Stopped.{stopped_span}
 use Rattle.voice.specs.Voice.{begun_voice, restarted_output, triggered_voice}
-use Rattle.bank.specs.declared.parts.Pending.TheVariants.{At}
 use Rattle.bank.specs.Parts.{restarted, parts_voice}
 use Rattle.calls.specs.Blocks.{prepared, played_state}
 use Rattle.player.specs.Player.{state_of}
@@ -96,8 +96,8 @@ pub stopped_restarts : StoppedRestarts
 unfolding played_state parts_voice restarted begun_voice triggered_voice restarted_output
 stopped_restarts p t frames n a e =
     let same = after_spans p.page.settings _ _ (min n frames) _ _ in
-    let b = (prepared (state_of p) t frames (At n)).block in
+    let b = (prepared (state_of p) t frames (Some n)).block in
     record {
-      delay_is = λ d s. same.same_delay ∙ ap (λ (z : Span). samples_of z b) s ∙ stopped_spans p t frames (At n) a e d;
-      fade_is = λ d s. same.same_fade ∙ ap (λ (z : Span). samples_of z b) s ∙ stopped_spans p t frames (At n) a e d;
+      delay_is = λ d s. same.same_delay ∙ ap (λ (z : Span). samples_of z b) s ∙ stopped_spans p t frames (Some n) a e d;
+      fade_is = λ d s. same.same_fade ∙ ap (λ (z : Span). samples_of z b) s ∙ stopped_spans p t frames (Some n) a e d;
     }

@@ -16,6 +16,8 @@ use Rattle.floatlaws.proofs.Mono.{round_number}
 use Rattle.floatlaws.proofs.Order.{le_says, says_le}
 use Rattle.floatlaws.specs.Size.{Sized, Size, AtLeast}
 use Rattle.floatlaws.proofs.Size.{size_finite, mul_size, div_size}
+use Rattle.chaos.specs.declared.law.Attractor.{Attractor}
+use Rattle.chaos.specs.declared.law.Attractor.TheVariants as Attractor
 use Rattle.chaos.specs.Law.{law_of, LORENZ, ROSSLER}
 use Rattle.chaos.specs.Advance.{advanced}
 use Rattle.chaos.proofs.Steps.{few_steps}
@@ -69,52 +71,52 @@ unfolding split_count
 split_in dt longest h = clamp_bounds (whole_of binary64 to_ceil (div binary64 dt longest)) f64_1 f64_16 (whole_number _ h) (unfold of_bits le in tt)
 
 -- a cycle's time is at most 6, and a step's at least 1 / 128
-law_in : (lorenz : Bool) → Size (law_of lorenz).per_cycle 6 × AtLeast (law_of lorenz).max_step 1 128
+law_in : (which : Attractor) → Size (law_of which).per_cycle 6 × AtLeast (law_of which).max_step 1 128
 unfolding LORENZ ROSSLER round div
-law_in true = (record { sized = lit≤ tt }, record { least = lit≤ tt })
-law_in false = (record { sized = lit≤ tt }, record { least = lit≤ tt })
+law_in Attractor.Lorenz = (record { sized = lit≤ tt }, record { least = lit≤ tt })
+law_in Attractor.Rossler = (record { sized = lit≤ tt }, record { least = lit≤ tt })
 
-steps_in : (lorenz : Bool) (inc : Float) → Size inc 1 → (1 ≤ (attractor_of lorenz inc).count) × ((attractor_of lorenz inc).count ≤ 16)
+steps_in : (which : Attractor) (inc : Float) → Size inc 1 → (1 ≤ (attractor_of which inc).count) × ((attractor_of which inc).count ≤ 16)
 unfolding attractor_of split_of
-steps_in lorenz inc S =
-    let L = law_in lorenz in
+steps_in which inc S =
+    let L = law_in which in
     let dt = mul_size (lit≤ tt) S L.0 in
     unsigned_in _ (split_in _ _ (size_finite (div_size 768 (zero-lt-suc 0) (lit≤ tt) (lit≤ tt) dt L.1)))
 
 -- both ends are met
-least_met : (attractor_of true f64_0).count ≡ 1
+least_met : (attractor_of Attractor.Lorenz f64_0).count ≡ 1
 unfolding attractor_of split_of split_count LORENZ of_bits mul div round whole_of clamp_of lt to_unsigned
 least_met = refl
 
-most_met : (attractor_of false f64_½).count ≡ 16
+most_met : (attractor_of Attractor.Rossler f64_½).count ≡ 16
 unfolding attractor_of split_of split_count ROSSLER of_bits mul div round whole_of clamp_of lt to_unsigned
 most_met = refl
 
 -- ---- the laws
 
-chaos_is : (lorenz : Bool) (kind : LfoType) (inc : Float) → kind ≡ attractor lorenz → chaos_of kind inc ≡ attractor_of lorenz inc
+chaos_is : (which : Attractor) (kind : LfoType) (inc : Float) → kind ≡ attractor which → chaos_of kind inc ≡ attractor_of which inc
 unfolding chaos_of
-chaos_is true kind inc e = rw e
-chaos_is false kind inc e = rw e
+chaos_is Attractor.Lorenz kind inc e = rw e
+chaos_is Attractor.Rossler kind inc e = rw e
 
-source_is : (lorenz : Bool) (kind : LfoType) (mode : Mode) (b : Block) (s : Source) (c : Float) → kind ≡ attractor lorenz
-    → (source_after kind mode b s c).chaos ≡ advanced lorenz s.chaos (step_of mode c b.chaos_h) b.chaos_steps
+source_is : (which : Attractor) (kind : LfoType) (mode : Mode) (b : Block) (s : Source) (c : Float) → kind ≡ attractor which
+    → (source_after kind mode b s c).chaos ≡ advanced which s.chaos (step_of mode c b.chaos_h) b.chaos_steps
 unfolding source_after
-source_is true kind mode b s c e = rw e
-source_is false kind mode b s c e = rw e
+source_is Attractor.Lorenz kind mode b s c e = rw e
+source_is Attractor.Rossler kind mode b s c e = rw e
 
 pub steps_a_sample : StepsASample
 unfolding frame_of
-steps_a_sample p t frames at h a lorenz e =
+steps_a_sample p t frames at h a which e =
     let s = p.page.settings in
     let b = (prepared (state_of p) t frames at).block in
     let S = (prepared_in s p.deck.clock t frames (reached_valid h).lfo_in.settings_in (transport_within a)).inc_in in
-    let k : b.chaos_steps ≡ (attractor_of lorenz b.inc).count = unfold prepared_of block_of in ap (λ z. z.count) (chaos_is lorenz s.kind (pace_at s t).inc e) in
+    let k : b.chaos_steps ≡ (attractor_of which b.inc).count = unfold prepared_of block_of in ap (λ z. z.count) (chaos_is which s.kind (pace_at s t).inc e) in
     record {
       steps = b.chaos_steps;
-      at_least = rw k (steps_in lorenz b.inc S).0;
-      at_most = rw k (steps_in lorenz b.inc S).1;
-      advances = λ k. (_, source_is lorenz s.kind s.mode b (nth_voice (state_of p) t frames at k).source (nth_frame (state_of p) t frames at k).count e);
+      at_least = rw k (steps_in which b.inc S).0;
+      at_most = rw k (steps_in which b.inc S).1;
+      advances = λ k. (_, source_is which s.kind s.mode b (nth_voice (state_of p) t frames at k).source (nth_frame (state_of p) t frames at k).count e);
     }
 
 size_le : (x : Float) → Size x 1 → T (le x (f64 1 1))
@@ -132,4 +134,4 @@ size_le x S = go x S.sized
 
 pub start_steps : StartSteps
 unfolding prepared_of block_of
-start_steps p h t frames at lorenz = few_steps lorenz (prepared (state_of p) t frames at).block.phase (size_le _ (phase_in p.page.settings (reached_valid h).lfo_in.settings_in))
+start_steps p h t frames at which = few_steps which (prepared (state_of p) t frames at).block.phase (size_le _ (phase_in p.page.settings (reached_valid h).lfo_in.settings_in))

@@ -1,4 +1,5 @@
 -- What holds of the default curves and is kept by every accepted call that sets a curve holds of the curves of every player that calls have reached. Assumes nothing.
+use Rattle.std.specs.Prelude.{None, Option, Some}
 use Prim.Native.Nat.{ℕ}
 use mathlib.Core.Path.{◌≡◌, sym, subst}
 use mathlib.Core.Bool.{Bool, true, false, cond}
@@ -8,11 +9,6 @@ use Rattle.path.specs.declared.Path.{Path}
 use Rattle.path.specs.Paths.{default_path}
 use Rattle.settings.specs.Codes.{settings_at, transport_at}
 use Rattle.codes.specs.declared.SettingsCodes.{SettingsCodes}
-use Rattle.settings.specs.declared.record.SettingsCode.{SettingsCode}
-use Rattle.settings.specs.declared.record.SettingsCode.TheVariants as SettingsCode
-use Rattle.settings.specs.declared.record.TransportCode.{TransportCode}
-use Rattle.settings.specs.declared.record.TransportCode.TheVariants as TransportCode
-use Rattle.bank.specs.declared.parts.Pending.{Pending}
 use Rattle.codes.specs.declared.ShapeCodes.{ShapeCodes}
 use Rattle.codes.specs.declared.PathCodes.{PathCodes}
 use Rattle.curves.specs.Given.{given_shape, given_path}
@@ -24,6 +20,8 @@ use Rattle.calls.proofs.Kept.{kept_after}
 use Rattle.player.specs.declared.Player.{Player}
 use Rattle.reached.specs.Traces.{History}
 use Rattle.reached.proofs.Traces.{history_state}
+use Rattle.settings.specs.declared.record.Settings.{Settings}
+use Rattle.settings.specs.declared.record.Transport.{Transport}
 
 module _ (P : Shape → Path → Type 0) (first : P default_shape default_path)
     (shaped : (s : Shape) (w : Path) (c : ShapeCodes) → ShapeAccepted true c → P s w → P (given_shape c) w)
@@ -32,10 +30,10 @@ module _ (P : Shape → Path → Type 0) (first : P default_shape default_path)
   Stores p = P p.lfo.shape p.lfo.path
 
   -- as it is made
-  new_stores : (seed : ℕ) (c : SettingsCode) → Stores (by_settings (no_player seed) c (λ s. new_state s seed))
+  new_stores : (seed : ℕ) (c : Option Settings) → Stores (by_settings (no_player seed) c (λ s. new_state s seed))
   unfolding new_state
-  new_stores seed (SettingsCode.Known s) = first
-  new_stores seed SettingsCode.Unknown = first
+  new_stores seed (Some s) = first
+  new_stores seed None = first
 
   made_stores : (c : SettingsCodes) (seed : ℕ) → Stores (made c seed)
   unfolding made
@@ -43,18 +41,18 @@ module _ (P : Shape → Path → Type 0) (first : P default_shape default_path)
     where
       go : (b : Bool) → Stores (cond b (by_settings (no_player seed) (settings_at c) (λ s. new_state s seed)) (no_player seed))
       go true = new_stores seed (settings_at c)
-      go false = new_stores seed SettingsCode.Unknown
+      go false = new_stores seed None
 
   -- as a call leaves it
-  set_stores : (p : State) (c : SettingsCode) → Stores p → Stores (by_settings p c (with_settings p))
+  set_stores : (p : State) (c : Option Settings) → Stores p → Stores (by_settings p c (with_settings p))
   unfolding with_settings
-  set_stores p (SettingsCode.Known s) g = g
-  set_stores p SettingsCode.Unknown g = g
+  set_stores p (Some s) g = g
+  set_stores p None g = g
 
-  played_stores : (p : State) (c : TransportCode) (n : ℕ) (at : Pending) → Stores p → Stores (by_transport p c (λ t. played_state p t n at))
+  played_stores : (p : State) (c : Option Transport) (n : ℕ) (at : Option ℕ) → Stores p → Stores (by_transport p c (λ t. played_state p t n at))
   unfolding played_state
-  played_stores p (TransportCode.Known t) n at g = g
-  played_stores p TransportCode.Unknown n at g = g
+  played_stores p (Some t) n at g = g
+  played_stores p None n at g = g
 
   accepted_stores : (p : State) (c : Call) → answer p c ≡ 0 → Stores p → Stores (accepted p c)
   unfolding accepted with_shape with_path with_bus answer questions

@@ -1,16 +1,14 @@
 -- What it means that a block says finished (document 02, W-204: "finished means that position has come to rest"), for every player that calls have reached. Assumes nothing.
-use Rattle.std.specs.Prelude.{ℕ, suc, ◌^◌, ◌≡◌, ◌⊎◌, Bool, true, false, List, T, Float}
+use Rattle.std.specs.Prelude.{ℕ, suc, ◌^◌, ◌≡◌, ◌⊎◌, Bool, true, false, List, T, Float, Option}
 use Rattle.std.specs.Float.Ieee.{le}
 use Rattle.floatlaws.specs.Numbers.{f64}
 use Rattle.settings.specs.declared.choices.LfoType.TheVariants.{Drawn, Path}
 use Rattle.settings.specs.declared.choices.Mode.TheVariants.{OneShot}
 use Rattle.settings.specs.declared.record.Settings.{Settings}
 use Rattle.settings.specs.declared.record.Transport.{Transport}
-use Rattle.position.specs.declared.place.LoopPoint.{LoopPoint}
 use Rattle.position.specs.Position.{position_of}
 use Rattle.position.specs.Rest.{loopback_in_force}
 use Rattle.position.specs.Laws.{Moves, rest_at}
-use Rattle.bank.specs.declared.parts.Pending.{Pending}
 use Rattle.calls.specs.State.{State}
 use Rattle.calls.specs.Blocks.{curve, end_count, finished}
 use Rattle.player.specs.declared.Player.{Player}
@@ -24,18 +22,18 @@ use Rattle.reached.specs.Frames.{nth_frame}
 -- what a block that is accepted says, by its contract
 abbrev pub BlockSays : Type 0
 BlockSays =
-    (p : Player) (t : Transport) (frames : ℕ) (at : Pending) (a : AcceptedBlock p t frames at) (r : Played) (x y : List Float)
+    (p : Player) (t : Transport) (frames : ℕ) (at : Option ℕ) (a : AcceptedBlock p t frames at) (r : Played) (x y : List Float)
     → Plays p a.codes frames a.restart a.x a.y r x y → r.finished ≡ finished (state_of p) t frames at
 
 -- the count that it is said by is that of the last frame that is written
 abbrev pub LastFrame : Type 0
-LastFrame = (p : State) (t : Transport) (k : ℕ) (at : Pending) → end_count p t (suc k) at ≡ (nth_frame p t (suc k) at k).count
+LastFrame = (p : State) (t : Transport) (k : ℕ) (at : Option ℕ) → end_count p t (suc k) at ≡ (nth_frame p t (suc k) at k).count
 
 -- and a block of no frames says 0
 abbrev pub NoFrames : Type 0
-NoFrames = (p : State) (t : Transport) (at : Pending) → finished p t 0 at ≡ false
+NoFrames = (p : State) (t : Transport) (at : Option ℕ) → finished p t 0 at ≡ false
 
-module _ (p : Player) (t : Transport) (frames : ℕ) (at : Pending) where
+module _ (p : Player) (t : Transport) (frames : ℕ) (at : Option ℕ) where
   abbrev s : Settings
   s = p.page.settings
 
@@ -46,7 +44,7 @@ module _ (p : Player) (t : Transport) (frames : ℕ) (at : Pending) where
   count = end_count (state_of p) t frames at
 
   -- the loopback as the block's frames read it
-  abbrev from : LoopPoint
+  abbrev from : Option Float
   from = (curve (state_of p) t frames at).from
 
   abbrev in_force : Bool
@@ -65,5 +63,5 @@ module _ (p : Player) (t : Transport) (frames : ℕ) (at : Pending) where
 
 abbrev pub FinishedMeans : Type 0
 FinishedMeans =
-    (p : Player) (t : Transport) (frames : ℕ) (at : Pending) → History p → AcceptedBlock p t frames at
+    (p : Player) (t : Transport) (frames : ℕ) (at : Option ℕ) → History p → AcceptedBlock p t frames at
     → (p.page.settings.kind ≡ Drawn) ⊎ (p.page.settings.kind ≡ Path) → SaysFinished p t frames at

@@ -1,5 +1,5 @@
 -- Frame k of a block of a player: its position, its weight, and that it is the frame that is written. Assumes nothing.
-use Rattle.std.specs.Prelude.{ℕ, ◌-◌, ◌<◌, min, ◌≡◌, cond, [], ◌∷◌, ltb, Float}
+use Rattle.std.specs.Prelude.{ℕ, ◌-◌, ◌<◌, min, ◌≡◌, cond, [], ◌∷◌, ltb, Float, None, Option, Some}
 use Rattle.floatlaws.specs.Numbers.{f32_1}
 use Rattle.floatlaws.specs.Whole.{InUnit}
 use Rattle.listlaws.specs.Tables.{tabulate}
@@ -13,8 +13,6 @@ use Rattle.voice.specs.Curve.{Curve}
 use Rattle.voice.specs.Frame.{Frame, frame_of}
 use Rattle.voice.specs.Generate.{place_of}
 use Rattle.voice.specs.Output.{gain_of}
-use Rattle.bank.specs.declared.parts.Pending.{Pending}
-use Rattle.bank.specs.declared.parts.Pending.TheVariants.{None, At}
 use Rattle.bank.specs.Render.{voice_after}
 use Rattle.bank.specs.Parts.{begun, restarted}
 use Rattle.questions.specs.Answers.{success}
@@ -30,11 +28,11 @@ use Rattle.reached.specs.Players.{NeverRestarted, AcceptedBlock}
 -- ---- frame k
 
 -- the frame that the restart comes before: "A restart frame beyond the block's end means the end", and so does no restart
-abbrev pub restart_frame : Pending → ℕ → ℕ
+abbrev pub restart_frame : Option ℕ → ℕ → ℕ
 restart_frame None frames = frames
-restart_frame (At n) frames = min n frames
+restart_frame (Some n) frames = min n frames
 
-module _ (p : State) (t : Transport) (frames : ℕ) (at : Pending) where
+module _ (p : State) (t : Transport) (frames : ℕ) (at : Option ℕ) where
   abbrev s : Settings
   s = p.lfo.settings
 
@@ -69,14 +67,14 @@ module _ (p : State) (t : Transport) (frames : ℕ) (at : Pending) where
 
 -- a block writes the value of frame 0, of frame 1, and so on
 abbrev pub FramesWritten : Type 0
-FramesWritten = (p : State) (t : Transport) (frames : ℕ) (at : Pending) (f : Frame → Float) → values p t frames at f ≡ tabulate (λ k. f (nth_frame p t frames at k)) frames
+FramesWritten = (p : State) (t : Transport) (frames : ℕ) (at : Option ℕ) (f : Frame → Float) → values p t frames at f ≡ tabulate (λ k. f (nth_frame p t frames at k)) frames
 
 -- ---- what holds of them
 
 -- "For every cycle count that a player reaches, position lies in 0 to 1, both included", and "Position becomes f32"
 abbrev pub PositionsIn : Type 0
 PositionsIn =
-    (p : Player) (t : Transport) (frames : ℕ) (at : Pending) → History p → AcceptedBlock p t frames at
+    (p : Player) (t : Transport) (frames : ℕ) (at : Option ℕ) → History p → AcceptedBlock p t frames at
     → (k : ℕ) → k < frames → InUnit (nth_position (state_of p) t frames at k) × InUnit (nth_place (state_of p) t frames at k)
 
 -- the same of the phase, which every accepted read gives
@@ -86,5 +84,5 @@ PhaseIn = (p : Player) (t : TransportCodes) → History p → answer (state_of p
 -- "A voice never restarted has full fade": every frame before the first restart
 abbrev pub FullFade : Type 0
 FullFade =
-    (p : Player) (t : Transport) (frames : ℕ) (at : Pending) (h : History p) → NeverRestarted h
+    (p : Player) (t : Transport) (frames : ℕ) (at : Option ℕ) (h : History p) → NeverRestarted h
     → (k : ℕ) → k < restart_frame at frames → nth_weight (state_of p) t frames at k ≡ f32_1

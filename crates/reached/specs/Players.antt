@@ -1,10 +1,8 @@
 -- Players that calls have reached, and the blocks that they accept. Assumes nothing.
-use Rattle.std.specs.Prelude.{ℕ, ◌≡◌, Bool, false, ◌&&◌, ◌||◌, List, [], ◌∷◌, Float}
+use Rattle.std.specs.Prelude.{ℕ, ◌≡◌, Bool, false, ◌&&◌, ◌||◌, List, [], ◌∷◌, Float, Option, Some}
 use Rattle.settings.specs.declared.record.Transport.{Transport}
 use Rattle.codes.specs.declared.TransportCodes.{TransportCodes}
-use Rattle.settings.specs.declared.record.TransportCode.TheVariants as TransportCode
 use Rattle.settings.specs.Codes.{transport_at}
-use Rattle.bank.specs.declared.parts.Pending.{Pending}
 use Rattle.curves.specs.Given.{is_yes}
 use Rattle.codes.specs.declared.RestartCodes.{RestartCodes}
 use Rattle.calls.specs.State.{State}
@@ -32,13 +30,13 @@ NeverRestarted h = restart_in (made h.codes h.seed) h.calls ≡ false
 -- ---- blocks
 
 -- a block of `frames` frames that p accepts: it starts at the transport t and is restarted where `at` says
-pub record AcceptedBlock (p : Player) (t : Transport) (frames : ℕ) (at : Pending) : Type 0 where
+pub record AcceptedBlock (p : Player) (t : Transport) (frames : ℕ) (at : Option ℕ) : Type 0 where
   pub codes : TransportCodes
   pub restart : RestartCodes
   pub x : List Float
   pub y : List Float
   pub accepted : answer (state_of p) (block codes frames restart x y) ≡ 0
-  pub transport_is : transport_at codes ≡ TransportCode.Known t
+  pub transport_is : transport_at codes ≡ Some t
   pub restart_is : pending_of restart ≡ at
 
 -- every block that is accepted is one

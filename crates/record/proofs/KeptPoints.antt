@@ -1,4 +1,5 @@
 -- Shapes as kept: fit to be written where questions 1, 2 and 4 were passed, and unchanged where they were read. Assumes nothing.
+use Rattle.std.specs.Prelude.{Option, None, Some}
 use Prim.Native.Nat.{ℕ, zero, suc, ◌-◌, ◌≤◌, ◌<◌, min}
 use mathlib.Core.Path.{◌≡◌, refl, sym, ap, ◌∙◌, subst, subst₂}
 use mathlib.Core.Bool.{Bool, true, false, not, cond, true≢false, false≢true}
@@ -19,7 +20,6 @@ use Rattle.listlaws.specs.Tables.{tabulate, padded, inserted}
 use Rattle.listlaws.proofs.LastWhere.{back, last_found, last_none}
 use Rattle.listlaws.proofs.Tabulation.{length_tabulate, get_or_padded}
 use Rattle.points.specs.declared.PointMod.{PointMod}
-use Rattle.points.specs.declared.PointMod.TheVariants as PointMod
 use Rattle.bend.specs.Grid.{clamped_curve}
 use Rattle.shape.specs.declared.sorting.Point.{Point}
 use Rattle.shape.specs.Points.{blank, no_point, clamped_point, slot_of, insert_point, sorted_points, sorted_array}
@@ -52,7 +52,7 @@ pub mod_same : (c : ModCodes) → ModOk c → kept_mod c ≡ c
 unfolding mod_of
 mod_same c h = by_code (eqb c.code 1) refl h
   where
-    by_code : (t : Bool) → eqb c.code 1 ≡ t → ModOk c → codes_of_mod (cond t (PointMod.Bus c.bus c.depth) PointMod.None) ≡ c
+    by_code : (t : Bool) → eqb c.code 1 ≡ t → ModOk c → codes_of_mod (cond t (Some (record { bus = c.bus; depth = c.depth })) None) ≡ c
     by_code true e h = λ d. record { code = sym (eqb-true c.code 1 e) d; bus = c.bus; depth = c.depth }
     by_code false e h =
         let other = eqb-false c.code 1 e in
@@ -63,19 +63,19 @@ pub mod_ok : (c : ModCodes) → mod_finite c ≡ true → ModTyped c → ModOk (
 unfolding mod_of
 mod_ok c finite_depth typed = by_code (eqb c.code 1) refl finite_depth
   where
-    by_code : (t : Bool) → eqb c.code 1 ≡ t → cond t (finite c.depth) true ≡ true → ModOk (codes_of_mod (cond t (PointMod.Bus c.bus c.depth) PointMod.None))
+    by_code : (t : Bool) → eqb c.code 1 ≡ t → cond t (finite c.depth) true ≡ true → ModOk (codes_of_mod (cond t (Some (record { bus = c.bus; depth = c.depth })) None))
     by_code true e h = omega arith with record { there = λ _. typed.bus; absent = λ e'. absurd (true≢false e') } with record { there = λ _. (typed.depth, h); absent = λ e'. absurd (true≢false e') }
     by_code false e h = omega arith with record { there = λ e'. absurd (false≢true e'); absent = λ _. refl } with record { there = λ e'. absurd (false≢true e'); absent = λ _. refl }
 
-pub mod_known : (m : PointMod) → ltb (codes_of_mod m).code 2 ≡ true
-mod_known PointMod.None = refl
-mod_known (PointMod.Bus bus depth) = refl
+pub mod_known : (m : Option PointMod) → ltb (codes_of_mod m).code 2 ≡ true
+mod_known None = refl
+mod_known (Some m) = refl
 
 pub mod_finite_lem : (c : ModCodes) → mod_finite c ≡ true → mod_finite (kept_mod c) ≡ true
 unfolding mod_of
 mod_finite_lem c h = by_code (eqb c.code 1) h
   where
-    by_code : (t : Bool) → cond t (finite c.depth) true ≡ true → mod_finite (codes_of_mod (cond t (PointMod.Bus c.bus c.depth) PointMod.None)) ≡ true
+    by_code : (t : Bool) → cond t (finite c.depth) true ≡ true → mod_finite (codes_of_mod (cond t (Some (record { bus = c.bus; depth = c.depth })) None)) ≡ true
     by_code true h = h
     by_code false h = refl
 
@@ -83,7 +83,7 @@ pub mod_typed : (c : ModCodes) → ModTyped c → ModTyped (kept_mod c)
 unfolding mod_of
 mod_typed c typed = by_code (eqb c.code 1)
   where
-    by_code : (t : Bool) → ModTyped (codes_of_mod (cond t (PointMod.Bus c.bus c.depth) PointMod.None))
+    by_code : (t : Bool) → ModTyped (codes_of_mod (cond t (Some (record { bus = c.bus; depth = c.depth })) None))
     by_code true = record { bus = typed.bus; depth = typed.depth }
     by_code false = record { bus = omega arith; depth = of_bits-fits _ 0 }
 

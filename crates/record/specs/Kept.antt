@@ -1,8 +1,7 @@
 -- An item as it is kept: fields of a case that was not chosen are 0, and the points are those that the player keeps. Assumes nothing.
-use Rattle.std.specs.Prelude.{cond, map, eqb}
+use Rattle.std.specs.Prelude.{cond, map, eqb, Option, None, Some}
 use Rattle.floatlaws.specs.Numbers.{f32_0}
 use Rattle.points.specs.declared.PointMod.{PointMod}
-use Rattle.points.specs.declared.PointMod.TheVariants as PointMod
 use Rattle.shape.specs.declared.sorting.Point.{Point}
 use Rattle.path.specs.declared.PathPoint.{PathPoint}
 use Rattle.codes.specs.declared.RateCodes.{RateCodes}
@@ -59,9 +58,9 @@ kept_loopback c = record { code = c.code; index = cond (eqb c.code 1) c.index 0 
 
 -- ---- points: "as the player keeps them". `given_shape` and `given_path` are what the calls give a player: the first 64 points, clamped, those of a shape sorted, and blank ones after them.
 
-abbrev pub codes_of_mod : PointMod → ModCodes
-codes_of_mod PointMod.None = blank_mod
-codes_of_mod (PointMod.Bus bus depth) = record { code = 1; bus = bus; depth = depth }
+abbrev pub codes_of_mod : Option PointMod → ModCodes
+codes_of_mod None = blank_mod
+codes_of_mod (Some m) = record { code = 1; bus = m.bus; depth = m.depth }
 
 abbrev pub codes_of_point : Point → PointCodes
 codes_of_point p =

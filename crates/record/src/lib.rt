@@ -31,13 +31,7 @@ pub fn transport(c: ItemCodes) -> TransportCodes
 fn buses_finite(buses: [f32; POINT_BUSES]) -> bool
     ensures { result ≡ buses_finite buses }
 {
-    let mut all = true;
-    let mut i = 0;
-    while i < POINT_BUSES {
-        all = all & questions::is_finite_f32(buses[i]);
-        i += 1;
-    }
-    all
+    buses.iter().all(|x| questions::is_finite_f32(*x))
 }
 
 // Question 1.

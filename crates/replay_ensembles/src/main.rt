@@ -34,10 +34,9 @@ fn play_next<R: Read, W: Write>(
 
 // Reads a stored one and plays it; answers whether there was one.
 fn next<R: Read, W: Write>(input: &mut R, to: &mut W) -> io::Result<bool> {
-    let head = stored::read_head(input)?;
-    if !head.there {
+    let Some(head) = stored::read_head(input)? else {
         return Ok(false);
-    }
+    };
     let mut bytes = [0u8; ROOM];
     play_next(input, to, &mut bytes[..head.len], head.room)?;
     Ok(true)

@@ -2,7 +2,6 @@
 // `stdout` has what the harness's own reader and the Rust source give: harness/ wrote both, by `harness/run vectors sittings`.
 #![tactic(auto)]
 
-use number::Reading;
 use std::io;
 use std::io::{BufReader, Read, Write};
 
@@ -10,61 +9,35 @@ use std::io::{BufReader, Read, Write};
 const MOST: u64 = 100000;
 
 // A byte of the input, where there is one.
-#[derive(Drop)]
-struct Byte {
-    there: bool,
-    value: u8,
-}
-
-fn read_byte<R: Read>(input: &mut R) -> io::Result<Byte> {
+fn read_byte<R: Read>(input: &mut R) -> io::Result<Option<u8>> {
     let mut one = [0u8; 1];
     let there = input.read(&mut one)? == 1;
-    Ok(Byte {
-        there,
-        value: one[0],
-    })
+    Ok(there.then_some(one[0]))
 }
 
-// A byte count, where there is one.
-#[derive(Drop)]
-struct Count {
-    there: bool,
-    value: u64,
-}
-
-const NONE: Count = Count {
-    there: false,
-    value: 0,
-};
-
-fn count_of(bytes: &[u8]) -> Count {
-    match number::read(bytes, 0) {
-        Reading::Number { value, next: _ } => Count { there: true, value },
-        Reading::CutShort => NONE,
-        Reading::Bad => NONE,
-    }
-}
-
-// Reads the byte count of the next sitting: at most ten bytes.
-fn read_count<R: Read>(input: &mut R) -> io::Result<Count> {
+// Reads the byte count of the next sitting, where there is one: at most ten bytes.
+fn read_count<R: Read>(input: &mut R) -> io::Result<Option<u64>> {
     let mut bytes = [0u8; 10];
     for n in 0..10 {
-        let b = read_byte(input)?;
-        if !b.there {
-            return Ok(NONE);
-        }
-        bytes[n] = b.value;
-        if b.value < 128 {
-            return Ok(count_of(&bytes[..n + 1]));
+        let Some(byte) = read_byte(input)? else {
+            return Ok(None);
+        };
+        bytes[n] = byte;
+        if byte < 128 {
+            return Ok(
+                number::read(&bytes[..n + 1], 0)
+                    .ok()
+                    .map(|(count, _)| count),
+            );
         }
     }
-    Ok(NONE)
+    Ok(None)
 }
 
 // Reads so many bytes, and leaves them.
 fn skip<R: Read>(input: &mut R, count: u64) -> io::Result<()> {
     for _ in 0..count {
-        if !read_byte(input)?.there {
+        if read_byte(input)?.is_none() {
             break;
         }
     }
@@ -77,11 +50,10 @@ fn next<R: Read, W: Write, E: Write>(
     to: &mut W,
     errors: &mut E,
 ) -> io::Result<bool> {
-    let count = read_count(input)?;
-    if !count.there {
+    let Some(count) = read_count(input)? else {
         return Ok(false);
-    }
-    let left = printing::print_sheet(input, to, errors, count.value);
+    };
+    let left = printing::print_sheet(input, to, errors, count);
     skip(input, left)?;
     to.write_all(b"\n")?;
     Ok(true)

@@ -1,19 +1,17 @@
 -- Numbers counted and written one by one: what is done, and what is still to come. Assumes nothing.
 use Prim.Native.Nat.{ℕ, suc, ◌+◌, ◌*◌, ◌≤◌, ◌<◌}
 use mathlib.Core.Path.{◌≡◌, refl, sym, ap, ◌∙◌}
-use mathlib.Core.Bool.{Bool, true, false}
-use mathlib.Core.List.{List, [], ◌∷◌, ◌++◌, append_assoc}
+use mathlib.Core.List.{List, [], ◌∷◌, ◌++◌, append_assoc, map}
 use native.Mathlib.Omega.{arith}
-use borrow.Author.Tests.{leb-true}
-use lib.ListN.{length, drop, get_or, length-append}
+use lib.ListN.{length, drop, get_or, length-append, length-map}
 use lib.Seq.{drop-cons, drop-length}
-use lib.Ieee.{Float, nan, binary32, to_bits}
+use Rattle.std.proofs.lemmas.List.{append-nil}
+use lib.Ieee.{Float, binary32, to_bits}
 use Rattle.listlaws.specs.Over.{over}
 use Rattle.listlaws.proofs.Over.{over_none, length_over, over_over}
-use Rattle.number.specs.declared.Writing.TheVariants.{Next, NoRoom}
 use Rattle.number.specs.Encoded.{encoded}
 use Rattle.number.proofs.Form.{encoded_length}
-use Rattle.replies.specs.Replies.{bytes_of, bits_of, listed, fits, Puts, WritesAll}
+use Rattle.replies.specs.Replies.{bytes_of, bits_of, listed, Puts}
 
 pub bytes_length : (l : List ℕ) → length (bytes_of l) ≤ 10 * length l
 unfolding bytes_of
@@ -26,20 +24,16 @@ bytes_append [] b = refl
 bytes_append (n ∷ a) b = ap (λ (l : List ℕ). encoded n ++ l) (bytes_append a b) ∙ sym (append_assoc (encoded n) (bytes_of a) (bytes_of b))
 
 pub bits_length : (l : List Float) → length (bits_of l) ≡ length l
-bits_length [] = refl
-bits_length (x ∷ l) = ap suc (bits_length l)
+bits_length l = length-map l (to_bits binary32)
 
 -- ---- the number at a place, and those behind it
 
-pub numbers_at : (s : List ℕ) (i : ℕ) → i < length s → drop i s ≡ get_or s i 0 ∷ drop (suc i) s
-numbers_at s i h = drop-cons s i 0 h
-
-pub floats_at : (s : List Float) (i : ℕ) → i < length s → bits_of (drop i s) ≡ to_bits binary32 (get_or s i nan) ∷ bits_of (drop (suc i) s)
-floats_at s i h = ap bits_of (drop-cons s i nan h)
+pub number_at : {A : Type 0} (f : A → ℕ) (s : List A) (i : ℕ) (a : A) → i < length s → a ≡ get_or s i a → map f (drop i s) ≡ f a ∷ map f (drop (suc i) s)
+number_at f s i a h e = ap (map f) (drop-cons s i a h) ∙ ap (λ b. f b ∷ map f (drop (suc i) s)) (sym e)
 
 -- none from the end on
-pub none_left : {A : Type 0} (s : List A) (i : ℕ) → length s ≤ i → i ≤ length s → drop i s ≡ []
-none_left s i h h' = let e : i ≡ length s = omega arith in rw e (drop-length s)
+pub none_left : {A : Type 0} (f : A → ℕ) (s : List A) (i : ℕ) → length s ≤ i → i ≤ length s → map f (drop i s) ≡ []
+none_left f s i h h' = let e : i ≡ length s = omega arith in rw (e, drop-length s)
 
 -- ---- counted
 
@@ -111,6 +105,10 @@ pub listed_length : (l : List ℕ) (x y : List Float)
 unfolding listed
 listed_length l x y = simp (bytes_append, length-append)
 
+pub listed_none : (l : List ℕ) → listed l [] [] ≡ l
+unfolding listed
+listed_none l = rw (append-nil, append-nil)
+
 put_long : {x : List ℕ} {at : ℕ} {l : List ℕ} {r : ℕ} {y : List ℕ} → Puts x at l r y → at + length (bytes_of l) ≤ length x → length y ≡ length x
 put_long {x} {at} {l} p room = rw p.bytes (length_over x at (bytes_of l) room)
 
@@ -140,19 +138,3 @@ module _ (o : List ℕ) (at : ℕ) (l : List ℕ) (x y : List Float) (room : at 
             next = omega (arith, listed_length l x y, p.next, q.next, w.next);
             bytes = rw (w.bytes, place, written, over_over o at (bytes_of l ++ bytes_of (bits_of x)) (bytes_of (bits_of y)) fit') (simp bytes_append);
           }
-
--- ---- all or nothing
-
-module _ (x : List ℕ) (at : ℕ) (l : List ℕ) {t : Bool} {size : ℕ} (size_is : size ≡ length (bytes_of l)) (asked : t ≡ fits (length x) at size) where
-  pub room : t ≡ true → at + length (bytes_of l) ≤ length x
-  room e = rw size_is at (leb-true (at + size) (length x) (sym asked ∙ e))
-
-  pub written : t ≡ true → {next : ℕ} {y : List ℕ} → Puts x at l next y → WritesAll x at l (Next next) y
-  written e put =
-      let yes : fits (length x) at (length (bytes_of l)) ≡ true = rw size_is at (sym asked ∙ e) in
-      record { answer = rw yes (ap Next put.next); bytes = rw yes put.bytes }
-
-  pub not_written : t ≡ false → WritesAll x at l NoRoom x
-  not_written e =
-      let no_room : fits (length x) at (length (bytes_of l)) ≡ false = rw size_is at (sym asked ∙ e) in
-      record { answer = rw no_room; bytes = rw no_room }

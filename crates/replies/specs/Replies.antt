@@ -1,10 +1,8 @@
 -- Numbers written one behind the other, all of them or none. Assumes nothing.
-use Rattle.std.specs.Prelude.{ℕ, ◌+◌, ◌≡◌, Bool, cond, List, [], ◌∷◌, ◌++◌, map, leb, length, Float}
+use Rattle.std.specs.Prelude.{ℕ, ◌+◌, ◌≡◌, Bool, cond, Option, Some, None, List, [], ◌∷◌, ◌++◌, map, leb, length, Float}
 use Rattle.std.specs.Float.{binary32}
 use Rattle.std.specs.Float.Ieee.{to_bits}
 use Rattle.listlaws.specs.Over.{over}
-use Rattle.number.specs.declared.Writing.{Writing}
-use Rattle.number.specs.declared.Writing.TheVariants.{Next, NoRoom}
 use Rattle.number.specs.Encoded.{encoded}
 
 -- the bytes of numbers, one behind the other
@@ -31,8 +29,8 @@ fitting len at [] = []
 fitting len at (l ∷ rest) = cond (fits len at (length (bytes_of l))) (bytes_of l ++ fitting len (at + length (bytes_of l)) rest) []
 
 -- writing the numbers l at the place `at` of x, all of them or none, answers r and leaves y
-pub record WritesAll (x : List ℕ) (at : ℕ) (l : List ℕ) (r : Writing) (y : List ℕ) : Type 0 where
-  pub answer : r ≡ cond (fits (length x) at (length (bytes_of l))) (Next (at + length (bytes_of l))) NoRoom
+pub record WritesAll (x : List ℕ) (at : ℕ) (l : List ℕ) (r : Option ℕ) (y : List ℕ) : Type 0 where
+  pub answer : r ≡ cond (fits (length x) at (length (bytes_of l))) (Some (at + length (bytes_of l))) None
   pub bytes : y ≡ cond (fits (length x) at (length (bytes_of l))) (over x at (bytes_of l)) x
 
 -- where there is room: the place after them, and the bytes

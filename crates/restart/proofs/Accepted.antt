@@ -1,4 +1,5 @@
 -- The transport of an accepted block: the one that its codes stand for, in range. Assumes nothing.
+use Rattle.std.specs.Prelude.{Some}
 use Prim.Native.Nat.{ℕ, zero, suc}
 use mathlib.Core.Path.{◌≡◌, refl, sym, ap, ◌∙◌}
 use mathlib.Core.Bool.{Bool}
@@ -7,15 +8,9 @@ use native.Mathlib.Omega.{arith}
 use lib.Ieee.{Float}
 use lib.ListN.{length}
 use Rattle.floatlaws.proofs.Tests.{yes_so}
-use Rattle.settings.specs.declared.choices.YesNo.{YesNo}
-use Rattle.settings.specs.declared.choices.YesNo.TheVariants as YesNo
 use Rattle.settings.specs.declared.times.Scale.{Scale}
-use Rattle.settings.specs.declared.times.ScaleCode.{ScaleCode}
-use Rattle.settings.specs.declared.times.ScaleCode.TheVariants as ScaleCode
 use Rattle.settings.specs.declared.record.Transport.{Transport}
 use Rattle.codes.specs.declared.TransportCodes.{TransportCodes}
-use Rattle.settings.specs.declared.record.TransportCode.{TransportCode}
-use Rattle.settings.specs.declared.record.TransportCode.TheVariants as TransportCode
 use Rattle.settings.specs.Choices.{yes_no_at}
 use Rattle.settings.specs.Times.{scale_at}
 use Rattle.settings.specs.Codes.{transport_at}
@@ -30,7 +25,7 @@ use Rattle.restart.specs.Rule.{transport_fields}
 use Rattle.restart.proofs.Constants.{pace_of}
 
 -- equal codes stand for one pace
-known_scale : (s r : Scale) → ScaleCode.Known s ≡ ScaleCode.Known r → s ≡ r
+known_scale : (s r : Scale) → Some s ≡ Some r → s ≡ r
 known_scale s r e = cc
 
 pub same_pace : (c d : TransportCodes) (t u : Transport) → TransportRead c t → TransportRead d u → transport_fields c ≡ transport_fields d → pace_of t ≡ pace_of u
@@ -55,7 +50,7 @@ same_pace c d t u r q e = go rate tempo bar swing scale
     go a b c d e = rw (a, b, c, d, e) refl
 
 -- a transport plays where its code is 1
-pub plays_by : (n : ℕ) (b : Bool) → yes_no_at n ≡ YesNo.Known b → b ≡ is_yes n
+pub plays_by : (n : ℕ) (b : Bool) → yes_no_at n ≡ Some b → b ≡ is_yes n
 plays_by zero b e = cc
 plays_by (suc zero) b e = cc
 plays_by (suc (suc n)) b e = let z : ◌≡◌ {A = ℕ} 0 1 = cc in absurd (omega arith)
@@ -65,7 +60,7 @@ plays_by (suc (suc n)) b e = let z : ◌≡◌ {A = ℕ} 0 1 = cc in absurd (ome
 -- codes of a transport that the questions let pass
 pub record Passes (c : TransportCodes) : Type 0 where
   pub t : Transport
-  pub is : transport_at c ≡ TransportCode.Known t
+  pub is : transport_at c ≡ Some t
   pub reading : TransportRead c t
   pub within : TransportIn t
 

@@ -1,4 +1,5 @@
 -- Two voices that are alike give equal frames and stay alike: what the next frames read, and what they do not. Assumes nothing.
+use Rattle.std.specs.Prelude.{Option}
 use Prim.Native.Nat.{ℕ}
 use mathlib.Core.Path.{◌≡◌, refl, ap}
 use mathlib.Core.Logic.{◌⊎◌, inl, inr}
@@ -8,7 +9,6 @@ use Rattle.settings.specs.declared.choices.LfoType.{LfoType}
 use Rattle.settings.specs.declared.choices.LfoType.TheVariants.{Drawn, Path, Lorenz, Rossler, SampleAndHold}
 use Rattle.settings.specs.declared.choices.Mode.{Mode}
 use Rattle.settings.specs.declared.choices.Direction.{Direction}
-use Rattle.settings.specs.declared.record.Smooth.{Smooth}
 use Rattle.clock.specs.declared.anchor.Anchor.{Anchor}
 use Rattle.clock.specs.declared.block.Block.{Block}
 use Rattle.clock.specs.Anchor.{next_anchor}
@@ -57,13 +57,13 @@ pub record Alike (kind : LfoType) (v w : Voice) : Type 0 where
 
 -- ---- the output
 
-post_same : (smooth : Smooth) (g : Float) (t : Bool) (raw : Float) (c d : Channel) → Started t c d → post_of smooth g t raw c ≡ post_of smooth g t raw d
+post_same : (smooth : Option Float) (g : Float) (t : Bool) (raw : Float) (c d : Channel) → Started t c d → post_of smooth g t raw c ≡ post_of smooth g t raw d
 unfolding post_of captured_of
 post_same smooth g t raw c d (inl e) = rw e refl
 post_same smooth g t raw c d (inr e) = rw e refl
 
 -- the second output, of its states c and d before a sample
-module _ (smooth : Smooth) (g : Float) (t : Bool) (raw : Float) (c d : Channel) where
+module _ (smooth : Option Float) (g : Float) (t : Bool) (raw : Float) (c d : Channel) where
   abbrev second : LfoType → Channel → Channel
   second kind z = second_of kind smooth g t raw z
 
@@ -79,12 +79,12 @@ module _ (smooth : Smooth) (g : Float) (t : Bool) (raw : Float) (c d : Channel) 
   unfolding second_of
   second_same kind s e = rw e (post_same smooth g t raw c d (s e))
 
-pub record PostedAlike (kind : LfoType) (smooth : Smooth) (o p : Output) (x y : Float) : Type 0 where
+pub record PostedAlike (kind : LfoType) (smooth : Option Float) (o p : Output) (x y : Float) : Type 0 where
   pub x_same : (posted kind smooth o x y).x ≡ (posted kind smooth p x y).x
   pub y_same : (posted kind smooth o x y).y ≡ (posted kind smooth p x y).y
   pub outputs : OutAlike kind (posted kind smooth o x y).output (posted kind smooth p x y).output
 
-posted_alike : (kind : LfoType) (smooth : Smooth) (o p : Output) (x y : Float) → OutAlike kind o p → PostedAlike kind smooth o p x y
+posted_alike : (kind : LfoType) (smooth : Option Float) (o p : Output) (x y : Float) → OutAlike kind o p → PostedAlike kind smooth o p x y
 unfolding posted
 posted_alike kind smooth o p x y a =
     let g = gain_of p.t p.delay p.fade p.inv_fade in

@@ -1,16 +1,14 @@
 -- What a restart and the frames after it read of a block: with song lock not in force it comes from the settings and five fields of the transport alone. Assumes nothing.
+use Rattle.std.specs.Prelude.{Option, None}
 use Prim.Native.Nat.{ℕ}
 use mathlib.Core.Path.{◌≡◌, refl, sym, ap, ◌∙◌}
 use mathlib.Core.Bool.{false, ◌&&◌}
 use lib.Ieee.{Float}
 use Rattle.floatlaws.specs.Numbers.{f64_0}
 use Rattle.settings.specs.declared.times.Scale.{Scale}
-use Rattle.settings.specs.declared.record.Smooth.{Smooth}
 use Rattle.settings.specs.declared.record.Settings.{Settings}
 use Rattle.settings.specs.declared.record.Transport.{Transport}
-use Rattle.position.specs.declared.swing.Swing.{Swing}
 use Rattle.clock.specs.declared.block.Block.{Block}
-use Rattle.clock.specs.declared.block.SongLock.TheVariants as SongLock
 use Rattle.clock.specs.declared.free.Clock.{Clock}
 use Rattle.clock.specs.Free.{new_clock}
 use Rattle.clock.specs.Pace.{tempo_of, song_lock_of}
@@ -23,8 +21,8 @@ pub record Constants : Type 0 where
   pub beat : Float
   pub rate : Float
   pub bar : Float
-  pub swing : Swing
-  pub smooth : Smooth
+  pub swing : Option Float
+  pub smooth : Option Float
   pub chaos_h : Float
   pub chaos_steps : ℕ
 
@@ -76,6 +74,6 @@ pub same_constants : (s : Settings) (k k' : Clock) (t t' : Transport) (n n' : �
 same_constants s k k' t t' n n' e =
     constants_by s k t n ∙ ap (λ (p : Pace). constants_of (prepared_of s new_clock (stopped p) 0).block) e ∙ sym (constants_by s k' t' n')
 
-pub not_locked : (s : Settings) (k : Clock) (t : Transport) (n : ℕ) → (s.song_lock && t.playing) ≡ false → (prepared_of s k t n).block.song_lock ≡ SongLock.None
+pub not_locked : (s : Settings) (k : Clock) (t : Transport) (n : ℕ) → (s.song_lock && t.playing) ≡ false → (prepared_of s k t n).block.song_lock ≡ None
 unfolding prepared_of block_of lock_at song_lock_of
 not_locked s k t n e = rw e refl

@@ -1,4 +1,5 @@
 -- What is heard of a list of calls is frames of one voice, however they are cut: refused calls, phase reads and blocks of no frames add nothing. Assumes nothing.
+use Rattle.std.specs.Prelude.{None, Option, Some}
 use Prim.Native.Nat.{ℕ, ◌+◌, min}
 use mathlib.Core.Path.{◌≡◌, refl, sym, ap, ap₂, ◌∙◌, subst}
 use mathlib.Core.Bool.{Bool, true, false, ◌&&◌, cond}
@@ -10,14 +11,11 @@ use Rattle.settings.specs.declared.record.Settings.{Settings}
 use Rattle.settings.specs.declared.record.Transport.{Transport}
 use Rattle.codes.specs.declared.TransportCodes.{TransportCodes}
 use Rattle.clock.specs.declared.block.Block.{Block}
-use Rattle.clock.specs.declared.block.SongLock.TheVariants as SongLock
 use Rattle.clock.specs.declared.free.Clock.{Clock}
 use Rattle.clock.specs.Free.{new_clock}
 use Rattle.clock.specs.Ready.{prepared_of}
 use Rattle.voice.specs.declared.Voice.{Voice}
 use Rattle.voice.specs.Curve.{Curve}
-use Rattle.bank.specs.declared.parts.Pending.{Pending}
-use Rattle.bank.specs.declared.parts.Pending.TheVariants.{None, At}
 use Rattle.codes.specs.declared.RestartCodes.{RestartCodes}
 use Rattle.calls.specs.State.{State}
 use Rattle.calls.specs.Blocks.{pending_of, played_state, values}
@@ -62,7 +60,7 @@ module _ (s : Settings) (fields : TransportFields) (S : Standing s fields) where
     pub constants_stand : constants_of (prepared_of s k P.t n).block ≡ constants_of standing
     constants_stand = same_constants s k new_clock P.t S.passes.t n 0 (same_pace c S.codes P.t S.passes.t P.reading S.passes.reading (g.same ∙ sym S.same))
 
-    pub unlocked : (prepared_of s k P.t n).block.song_lock ≡ SongLock.None
+    pub unlocked : (prepared_of s k P.t n).block.song_lock ≡ None
     unlocked = not_locked s k P.t n (ap (λ (z : Bool). s.song_lock && z) (plays_by c.playing P.t.playing P.reading.playing) ∙ g.unlocked)
 
 -- ---- from a voice that goes on
@@ -119,7 +117,7 @@ module _ (s : Settings) (q : Curve) (fields : TransportFields) (S : Standing s f
     abbrev like : constants_of b ≡ constants_of b₀
     like = constants_stand s fields S p.lfo.clock c P g n
 
-    abbrev free : b.song_lock ≡ SongLock.None
+    abbrev free : b.song_lock ≡ None
     free = unlocked s fields S p.lfo.clock c P g n
 
     -- the voice counts by the block's increment
@@ -148,20 +146,20 @@ module _ (s : Settings) (q : Curve) (fields : TransportFields) (S : Standing s f
     )
 
     -- the frames before a restart
-    at_plays : (k : ℕ) → GoesOn side p (take (min k n) (values p t n (At k) (value_of side)))
+    at_plays : (k : ℕ) → GoesOn side p (take (min k n) (values p t n (Some k) (value_of side)))
     at_plays k = (
       min k n,
-      ap (λ (l : List Float). take (min k n) l) (values_parts s q p d.has t n (At k) (value_of side))
+      ap (λ (l : List Float). take (min k n) l) (values_parts s q p d.has t n (Some k) (value_of side))
           ∙ before_outs s q b₀ b n p.voice S.mode free like b₀.inc by_block d.running k (value_of side),
     )
 
   module _ (side : Side) (p : State) (d : Steady p) (c : TransportCodes) (n : ℕ) (r : RestartCodes) (x y : List Float) (cs : List Call) where
     -- a block that is accepted, with the player after it and its frames as its voice gives them
-    taken : (at : Pending) (P : Passes c) → Every (Gets s fields) (blocks_up_to at c (window (played_state p P.t n at) cs)) → Later side cs
+    taken : (at : Option ℕ) (P : Passes c) → Every (Gets s fields) (blocks_up_to at c (window (played_state p P.t n at) cs)) → Later side cs
         → GoesOn side p (frames_up_to at n (values p P.t n at (value_of side)) (heard side (played_state p P.t n at) cs))
     taken None P ev ih =
         none_plays side p d c n P (head ev) (heard side (played_state p P.t n None) cs) (ih (played_state p P.t n None) (steady_ahead side p d c n P (head ev)) (tail ev))
-    taken (At k) P ev ih = at_plays side p d c n P (head ev) k
+    taken (Some k) P ev ih = at_plays side p d c n P (head ev) k
 
     block_case : (t : Bool) (z : State) → accepts p (block c n r x y) ≡ t → z ≡ step p (block c n r x y)
         → Every (Gets s fields) (cond t (blocks_up_to (pending_of r) c (window z cs)) (window z cs)) → Later side cs

@@ -1,4 +1,5 @@
 -- Sample and hold: the first frame after a restart draws, so that equal random words are enough. Assumes nothing.
+use Rattle.std.specs.Prelude.{None, Option, Some}
 use Prim.Native.Nat.{ℕ, zero, suc, ◌+◌, ◌-◌, ◌*◌, ◌/◌, ◌^◌, ◌≤◌, ◌<◌, zero-le}
 use mathlib.Core.Path.{◌≡◌, refl, ap, ◌∙◌}
 use mathlib.Core.Logic.{◌⊎◌, inl, inr}
@@ -18,8 +19,6 @@ use Rattle.floatlaws.proofs.Size.{size_more}
 use Rattle.random.specs.Draw.{drawn}
 use Rattle.settings.specs.declared.choices.Mode.{Mode}
 use Rattle.position.specs.Position.{swung_of, swung_by}
-use Rattle.position.specs.declared.swing.Swing.{Swing}
-use Rattle.position.specs.declared.swing.Swing.TheVariants as Swing
 use Rattle.clock.specs.declared.anchor.Anchor.{Anchor}
 use Rattle.clock.specs.declared.anchor.Anchor.TheVariants.{Samples}
 use Rattle.clock.specs.declared.block.Block.{Block}
@@ -48,14 +47,14 @@ signed_apart (fin true m e) n z h =
     let w : m * up e / down e ≤ n = le_of_mul-le-mul_right (le_trans (div-mul-le_self (m * up e) (down e)) z) (down_pos e) in
     rw (min-eq_left (le_trans w (le_of_lt h))) (below n (m * up e / down e) h w)
 
-sized_apart : (w : Swing) (c : Float) → SwingIn w → Size c (2 ^ 46) → same_cycle (to_signed 63 (whole_of binary64 to_floor (swung_by w c))) no_cycle ≡ false
+sized_apart : (w : Option Float) (c : Float) → SwingIn w → Size c (2 ^ 46) → same_cycle (to_signed 63 (whole_of binary64 to_floor (swung_by w c))) no_cycle ≡ false
 sized_apart w c i z =
     let f = floor_size (lit≤ tt) (swung_in w c z i) in signed_apart (whole_of binary64 to_floor (swung_by w c)) (2 ^ 50 + 1) f.sized (lit< tt)
 
-nan_apart : (w : Swing) → same_cycle (to_signed 63 (whole_of binary64 to_floor (swung_by w nan))) no_cycle ≡ false
+nan_apart : (w : Option Float) → same_cycle (to_signed 63 (whole_of binary64 to_floor (swung_by w nan))) no_cycle ≡ false
 unfolding same_cycle to_signed whole_of swung_of add mul of_bits
-nan_apart Swing.Off = refl
-nan_apart (Swing.First first) = refl
+nan_apart None = refl
+nan_apart (Some first) = refl
 
 -- ---- an anchor at which it draws
 
@@ -76,7 +75,7 @@ zero_size n = size_more {a = 0} zero-le (record { sized = lit≤ tt })
 reached : (c0 : Float) (n : ℕ) (inc : Float) → n ≤ 2 ^ 40 → Size c0 (2 ^ 45 + (2 ^ 40 - n)) → Size inc 1 → Size (along c0 (to_f64 n) inc) (2 ^ 46)
 reached c0 n inc h z i = size_more (lit≤ tt) (reached_size (zero_size _) (zero_size _) (2 ^ 40) (le_refl (2 ^ 40)) (Samples c0 n inc) (h, z, i))
 
-along_apart : (w : Swing) → SwingIn w → (c0 : Float) (n : ℕ) (inc : Float) → n ≤ 2 ^ 40 → (c0 ≡ nan) ⊎ Size c0 (2 ^ 45 + (2 ^ 40 - n)) → Size inc 1
+along_apart : (w : Option Float) → SwingIn w → (c0 : Float) (n : ℕ) (inc : Float) → n ≤ 2 ^ 40 → (c0 ≡ nan) ⊎ Size c0 (2 ^ 45 + (2 ^ 40 - n)) → Size inc 1
     → same_cycle (to_signed 63 (whole_of binary64 to_floor (swung_by w (along c0 (to_f64 n) inc)))) no_cycle ≡ false
 along_apart w i c0 n inc h (inl e) s = rw e (unfold add in nan_apart w)
 along_apart w i c0 n inc h (inr z) s = sized_apart w (along c0 (to_f64 n) inc) i (reached c0 n inc h z s)

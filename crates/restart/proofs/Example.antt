@@ -23,7 +23,7 @@ use Rattle.codes.specs.declared.SmoothCodes.{SmoothCodes}
 use Rattle.codes.specs.declared.SettingsCodes.{SettingsCodes}
 use Rattle.codes.specs.declared.TransportCodes.{TransportCodes}
 use Rattle.settings.specs.Times.{rate_at, span_at, scale_at, clamped_rate, clamped_span}
-use Rattle.settings.specs.Codes.{smooth_at, with_spans, with_switches, settings_at, transport_at, settings_known, transport_known}
+use Rattle.settings.specs.Codes.{smooth_at, settings_at, transport_at, settings_known, transport_known}
 use Rattle.settings.specs.Records.{clamped_settings}
 use Rattle.codes.specs.declared.ModCodes.{ModCodes}
 use Rattle.codes.specs.declared.PointCodes.{PointCodes}
@@ -207,13 +207,13 @@ abbrev player₂ : JustMade
 player₂ = record { codes = other; seed = 2; accepted = makes_other }
 
 pub restart₁ : RestartFrom (made drawn 1)
-unfolding after step answer questions first_no settings_questions block_questions bus_questions settings_known settings_finite transport_known transport_finite transport_in settings_at with_switches with_spans rate_at span_at smooth_at transport_at scale_at accepted played_state with_bus made new_state lib.Ieee.neg le lt eq of_bits
+unfolding after step answer questions first_no settings_questions block_questions bus_questions settings_known settings_finite transport_known transport_finite transport_in settings_at rate_at span_at smooth_at transport_at scale_at accepted played_state with_bus made new_state lib.Ieee.neg le lt eq of_bits
 restart₁ =
     record { before = before₁; transport = here; frames = 4; restart = at 1; x = room; y = room; rest = rest₁; accepted = refl; carried = refl }
 
 -- the restart lies beyond the end of a block of no frames
 pub restart₂ : RestartFrom (made other 2)
-unfolding after step answer questions first_no settings_questions block_questions bus_questions settings_known settings_finite transport_known transport_finite transport_in settings_at with_switches with_spans rate_at span_at smooth_at transport_at scale_at accepted played_state with_bus made new_state lib.Ieee.neg le lt eq of_bits shape_questions shape_known shape_finite loopback_in shape_on_grid every_kept phase_questions every point_known point_finite is_multiple clamp_of with_settings with_shape pending_of
+unfolding after step answer questions first_no settings_questions block_questions bus_questions settings_known settings_finite transport_known transport_finite transport_in settings_at rate_at span_at smooth_at transport_at scale_at accepted played_state with_bus made new_state lib.Ieee.neg le lt eq of_bits shape_questions shape_known shape_finite loopback_in shape_on_grid every_kept phase_questions every point_known point_finite is_multiple clamp_of with_settings with_shape pending_of
 restart₂ =
     record { before = before₂; transport = there; frames = 0; restart = at 7; x = room; y = room; rest = rest₂; accepted = refl; carried = refl }
 
@@ -221,7 +221,7 @@ not_held : Drawn ≡ SampleAndHold → ⊥
 not_held e = let z : ◌≡◌ {A = ℕ} 0 1 = cc in omega arith
 
 met : Hypotheses (at_restart restart₁) (at_restart restart₂) (transport_fields here)
-unfolding restart₁ restart₂ throughout window after step answer questions first_no settings_questions block_questions bus_questions settings_known settings_finite transport_known transport_finite transport_in settings_at with_switches with_spans rate_at span_at smooth_at transport_at scale_at accepted played_state with_bus made new_state lib.Ieee.neg le lt eq of_bits shape_questions shape_known shape_finite loopback_in shape_on_grid every_kept phase_questions every point_known point_finite is_multiple with_settings with_shape pending_of clamped_settings clamped_rate clamped_span moved_buses given_shape given_points point_of mod_of loopback_of within shape_of sorted_array sorted_points insert_point slot_of clamped_point tabulate last_where inserted default_shape clamp_of
+unfolding restart₁ restart₂ throughout window after step answer questions first_no settings_questions block_questions bus_questions settings_known settings_finite transport_known transport_finite transport_in settings_at rate_at span_at smooth_at transport_at scale_at accepted played_state with_bus made new_state lib.Ieee.neg le lt eq of_bits shape_questions shape_known shape_finite loopback_in shape_on_grid every_kept phase_questions every point_known point_finite is_multiple with_settings with_shape pending_of clamped_settings clamped_rate clamped_span moved_buses given_shape given_points point_of mod_of loopback_of within shape_of sorted_array sorted_points insert_point slot_of clamped_point tabulate last_where inserted default_shape clamp_of
 met =
     record {
       mode = inl refl;
@@ -240,12 +240,12 @@ met =
 
 -- the first plays five frames from its restart, and the second four before its next restart
 five : (side : Side) → length (frames_from restart₁ side) ≡ 5
-unfolding restart₁ frames_from heard read buffer played values parts_outs outs pending_of after step answer questions first_no settings_questions block_questions bus_questions settings_known settings_finite transport_known transport_finite transport_in settings_at with_switches with_spans rate_at span_at smooth_at transport_at scale_at accepted played_state with_bus made new_state lib.Ieee.neg le lt eq of_bits
+unfolding restart₁ frames_from heard read buffer played values parts_outs outs pending_of after step answer questions first_no settings_questions block_questions bus_questions settings_known settings_finite transport_known transport_finite transport_in settings_at rate_at span_at smooth_at transport_at scale_at accepted played_state with_bus made new_state lib.Ieee.neg le lt eq of_bits
 five x_side = refl
 five y_side = refl
 
 four : (side : Side) → length (frames_from restart₂ side) ≡ 4
-unfolding restart₂ frames_from heard read buffer played values parts_outs outs after step answer questions first_no settings_questions block_questions bus_questions settings_known settings_finite transport_known transport_finite transport_in settings_at with_switches with_spans rate_at span_at smooth_at transport_at scale_at accepted played_state with_bus made new_state lib.Ieee.neg le lt eq of_bits shape_questions shape_known shape_finite loopback_in shape_on_grid every_kept phase_questions every point_known point_finite is_multiple clamp_of with_settings with_shape pending_of
+unfolding restart₂ frames_from heard read buffer played values parts_outs outs after step answer questions first_no settings_questions block_questions bus_questions settings_known settings_finite transport_known transport_finite transport_in settings_at rate_at span_at smooth_at transport_at scale_at accepted played_state with_bus made new_state lib.Ieee.neg le lt eq of_bits shape_questions shape_known shape_finite loopback_in shape_on_grid every_kept phase_questions every point_known point_finite is_multiple clamp_of with_settings with_shape pending_of
 four x_side = refl
 four y_side = refl
 

@@ -1,4 +1,5 @@
 -- A voice that counts samples: its frames read neither the block's place nor theirs in it, and a stretch that goes on is begun as it is. Assumes nothing.
+use Rattle.std.specs.Prelude.{Some, None}
 use Prim.Native.Nat.{ℕ, ◌+◌}
 use mathlib.Core.Path.{◌≡◌, refl, ap}
 use mathlib.Core.Logic.{inl, inr}
@@ -13,11 +14,9 @@ use Rattle.settings.specs.declared.record.Settings.{Settings}
 use Rattle.clock.specs.declared.anchor.Anchor.{Anchor}
 use Rattle.clock.specs.declared.anchor.Anchor.TheVariants.{Samples}
 use Rattle.clock.specs.declared.block.Block.{Block}
-use Rattle.clock.specs.declared.block.SongLock.TheVariants as SongLock
 use Rattle.clock.specs.Anchor.{next_anchor, begun_of}
 use Rattle.voice.specs.declared.Voice.{Voice}
 use Rattle.voice.specs.declared.source.Source.{Source}
-use Rattle.voice.specs.declared.begun.MadeFor.TheVariants as MadeFor
 use Rattle.voice.specs.Source.{is_made_for, kind_number}
 use Rattle.voice.specs.Curve.{Curve}
 use Rattle.voice.specs.Generate.{count_at, source_after}
@@ -31,7 +30,7 @@ pub record Running (kind : LfoType) (inc : Float) (v : Voice) : Type 0 where
   pub c0 : Float
   pub n : ℕ
   pub is : v.anchor ≡ Samples c0 n inc
-  pub made : v.made_for ≡ MadeFor.For kind
+  pub made : v.made_for ≡ Some kind
 
 -- ---- a frame
 
@@ -68,17 +67,17 @@ running_frame kind mode direction q b k inc v r = record { c0 = r.c0; n = r.n + 
 
 -- ---- a stretch begun
 
-made_for : (kind : LfoType) → is_made_for (MadeFor.For kind) kind ≡ true
+made_for : (kind : LfoType) → is_made_for (Some kind) kind ≡ true
 made_for kind = eq-eqb (kind_number kind) (kind_number kind) refl
 
-anchor_same : (mode : Mode) (a : Anchor) (b : Block) (k : ℕ) (c0 : Float) (n : ℕ) (inc : Float) → Restarts mode → b.song_lock ≡ SongLock.None → eq inc b.inc ≡ true
+anchor_same : (mode : Mode) (a : Anchor) (b : Block) (k : ℕ) (c0 : Float) (n : ℕ) (inc : Float) → Restarts mode → b.song_lock ≡ None → eq inc b.inc ≡ true
     → a ≡ Samples c0 n inc → begun_anchor mode a b k ≡ a
 unfolding begun_anchor begun_of
 anchor_same mode a b k c0 n inc (inl m) l t e = rw (m, l, e, t) refl
 anchor_same mode a b k c0 n inc (inr m) l t e = rw (m, l, e, t) refl
 
 -- A voice that counts by what compares equal to the block's increment is begun as it is. (0 and −0 compare equal: the anchor keeps its bits.)
-pub begun_same : (s : Settings) (b : Block) (k : ℕ) (v : Voice) (inc : Float) → Restarts s.mode → b.song_lock ≡ SongLock.None → eq inc b.inc ≡ true
+pub begun_same : (s : Settings) (b : Block) (k : ℕ) (v : Voice) (inc : Float) → Restarts s.mode → b.song_lock ≡ None → eq inc b.inc ≡ true
     → Running s.kind inc v → begun_voice s b k v ≡ v
 unfolding begun_voice begun_source
 begun_same s b k v inc m l t r =

@@ -1,4 +1,5 @@
 -- One list of calls: the frames from its restart are frames of the voice as the restart leaves it. Assumes nothing.
+use Rattle.std.specs.Prelude.{Option, Some, None}
 use Prim.Native.Nat.{ℕ, ◌+◌, ◌-◌}
 use mathlib.Core.Path.{◌≡◌, refl, sym, ap, ap₂, ◌∙◌, subst}
 use mathlib.Core.Bool.{true}
@@ -9,13 +10,10 @@ use borrow.Author.Tests.{eq-eqb}
 use Rattle.settings.specs.declared.record.Settings.{Settings}
 use Rattle.settings.specs.declared.record.Transport.{Transport}
 use Rattle.clock.specs.declared.block.Block.{Block}
-use Rattle.clock.specs.declared.block.SongLock.TheVariants as SongLock
 use Rattle.clock.specs.Ready.{prepared_of}
 use Rattle.voice.specs.declared.Voice.{Voice}
 use Rattle.voice.specs.Curve.{Curve}
 use Rattle.voice.specs.Voice.{triggered_voice}
-use Rattle.bank.specs.declared.parts.Pending.{Pending}
-use Rattle.bank.specs.declared.parts.Pending.TheVariants.{At}
 use Rattle.bank.specs.Parts.{reaching, restarted}
 use Rattle.slot.specs.Slot.{Lfo, slot_curve}
 use Rattle.codes.specs.declared.RestartCodes.{RestartCodes}
@@ -33,7 +31,7 @@ use Rattle.restart.proofs.Ready.{inc_number}
 use Rattle.restart.proofs.Steps.{value_of, block_runs, read_values, Has, values_parts, played_voice, has_played}
 use Rattle.restart.proofs.Cuts.{head, tail, Standing, standing, constants_stand, unlocked, ahead, sounds, Steady, GoesOn, heard_plays}
 
-pending_at : (r : RestartCodes) → r.code ≡ 1 → pending_of r ≡ At r.frame
+pending_at : (r : RestartCodes) → r.code ≡ 1 → pending_of r ≡ Some r.frame
 unfolding pending_of
 pending_at r e = rw e refl
 
@@ -70,7 +68,7 @@ module _ (s : Settings) (q : Curve) (fields : TransportFields) (S : Standing s f
   pub like : constants_of b ≡ constants_of b₀
   like = constants_stand s fields S P.lfo.clock r.transport T gets r.frames
 
-  pub free : b.song_lock ≡ SongLock.None
+  pub free : b.song_lock ≡ None
   free = unlocked s fields S P.lfo.clock r.transport T gets r.frames
 
   taken : accepts P (restart_block r) ≡ true
@@ -78,15 +76,15 @@ module _ (s : Settings) (q : Curve) (fields : TransportFields) (S : Standing s f
 
   -- the player after the block
   abbrev past : State
-  past = played_state P t r.frames (At r.restart.frame)
+  past = played_state P t r.frames (Some r.restart.frame)
 
   past_is : state_past r ≡ past
   past_is =
-      block_runs P r.transport r.frames r.restart r.x r.y t T.is taken ∙ ap (λ (at : Pending). played_state P t r.frames at) (pending_at r.restart r.carried)
+      block_runs P r.transport r.frames r.restart r.x r.y t T.is taken ∙ ap (λ (at : Option ℕ). played_state P t r.frames at) (pending_at r.restart r.carried)
 
   past_voice : past.voice ≡ ahead s q fields S own start
   past_voice =
-      played_voice s q P h t r.frames (At r.restart.frame)
+      played_voice s q P h t r.frames (Some r.restart.frame)
       ∙ from_voice s q b₀ b r.frames P.voice S.mode free like (inc_number s S.settled P.lfo.clock t T.within r.frames) r.restart.frame
 
   start_runs : Running s.kind b₀.inc start
@@ -97,7 +95,7 @@ module _ (s : Settings) (q : Curve) (fields : TransportFields) (S : Standing s f
   steady : Steady s q fields S past
   steady =
       record {
-        has = has_played s q P h t r.frames (At r.restart.frame);
+        has = has_played s q P h t r.frames (Some r.restart.frame);
         running = rw past_voice (running_later s.kind s.mode s.direction q b₀ b₀.inc own start start_runs);
       }
 
@@ -111,8 +109,8 @@ module _ (s : Settings) (q : Curve) (fields : TransportFields) (S : Standing s f
   own_values side =
       ap (λ (l : List Float). drop k l)
       (read_values P r.transport r.frames r.restart r.x r.y t T.is taken side
-      ∙ ap (λ (at : Pending). values P t r.frames at (value_of side)) (pending_at r.restart r.carried)
-      ∙ values_parts s q P h t r.frames (At r.restart.frame) (value_of side))
+      ∙ ap (λ (at : Option ℕ). values P t r.frames at (value_of side)) (pending_at r.restart r.carried)
+      ∙ values_parts s q P h t r.frames (Some r.restart.frame) (value_of side))
       ∙ from_outs s q b₀ b r.frames P.voice S.mode free like (inc_number s S.settled P.lfo.clock t T.within r.frames) r.restart.frame (value_of side)
 
   pub from_plays : (side : Side) → (N : ℕ) × (frames_from r side ≡ sounds s q fields S side N start)

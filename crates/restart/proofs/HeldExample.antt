@@ -15,7 +15,7 @@ use Rattle.random.specs.Draw.{xor_shl, stepped}
 use Rattle.random.specs.Draw as random
 use Rattle.codes.specs.declared.SettingsCodes.{SettingsCodes}
 use Rattle.settings.specs.Times.{rate_at, span_at, scale_at, clamped_rate, clamped_span}
-use Rattle.settings.specs.Codes.{smooth_at, with_spans, with_switches, settings_at, transport_at, settings_known, transport_known}
+use Rattle.settings.specs.Codes.{smooth_at, settings_at, transport_at, settings_known, transport_known}
 use Rattle.settings.specs.Records.{clamped_settings}
 use Rattle.voice.specs.Source.{new_source, sampled_of, same_cycle, cycle_of}
 use Rattle.voice.specs.Generate.{source_after}
@@ -56,17 +56,17 @@ abbrev before₁ : List Call
 before₁ = block here 3 never room room ∷ settings held ∷ block here 1 never room room ∷ []
 
 pub restart₁ : RestartFrom (made drawn 7)
-unfolding after step answer questions first_no settings_questions block_questions settings_known settings_finite transport_known transport_finite transport_in settings_at with_switches with_spans rate_at span_at smooth_at transport_at scale_at accepted played_state made new_state lib.Ieee.neg le lt eq of_bits with_settings pending_of
+unfolding after step answer questions first_no settings_questions block_questions settings_known settings_finite transport_known transport_finite transport_in settings_at rate_at span_at smooth_at transport_at scale_at accepted played_state made new_state lib.Ieee.neg le lt eq of_bits with_settings pending_of
 restart₁ = record { before = before₁; transport = here; frames = 2; restart = at 0; x = room; y = room; rest = []; accepted = refl; carried = refl }
 
 -- the draw in the restart's block, before its frame
 pub restart₂ : RestartFrom (made held 7)
-unfolding after step answer questions first_no settings_questions block_questions settings_known settings_finite transport_known transport_finite transport_in settings_at with_switches with_spans rate_at span_at smooth_at transport_at scale_at accepted played_state made new_state lib.Ieee.neg le lt eq of_bits with_settings pending_of
+unfolding after step answer questions first_no settings_questions block_questions settings_known settings_finite transport_known transport_finite transport_in settings_at rate_at span_at smooth_at transport_at scale_at accepted played_state made new_state lib.Ieee.neg le lt eq of_bits with_settings pending_of
 restart₂ =
     record { before = []; transport = there; frames = 2; restart = at 1; x = room; y = room; rest = block there 1 never room room ∷ []; accepted = refl; carried = refl }
 
 words : word_at restart₁ ≡ word_at restart₂
-unfolding restart₁ restart₂ word_at begun begun_voice begun_source voice_after frame_of source_after sampled_of same_cycle cycle_of parts_voice new_voice new_source clamped_settings after step answer questions first_no settings_questions block_questions settings_known settings_finite transport_known transport_finite transport_in settings_at with_switches with_spans rate_at span_at smooth_at transport_at scale_at accepted played_state made new_state lib.Ieee.neg le lt eq of_bits with_settings pending_of
+unfolding restart₁ restart₂ word_at begun begun_voice begun_source voice_after frame_of source_after sampled_of same_cycle cycle_of parts_voice new_voice new_source clamped_settings after step answer questions first_no settings_questions block_questions settings_known settings_finite transport_known transport_finite transport_in settings_at rate_at span_at smooth_at transport_at scale_at accepted played_state made new_state lib.Ieee.neg le lt eq of_bits with_settings pending_of
 words = refl
 
 -- of the player that a restart's block gets, the word at the block's start
@@ -74,7 +74,7 @@ abbrev word_at_start : {p : State} → RestartFrom p → ℕ
 word_at_start r = word_after (state_at r) r.transport r.frames 0
 
 pub words_at_starts : eqb (word_at_start restart₁) (word_at_start restart₂) ≡ false
-unfolding restart₁ restart₂ begun begun_voice begun_source voice_after frame_of source_after sampled_of same_cycle cycle_of parts_voice new_voice new_source clamped_settings random.drawn stepped xor_shl xor_shr mixed finalised next_state after step answer questions first_no settings_questions block_questions settings_known settings_finite transport_known transport_finite transport_in settings_at with_switches with_spans rate_at span_at smooth_at transport_at scale_at accepted played_state made new_state lib.Ieee.neg le lt eq of_bits with_settings pending_of
+unfolding restart₁ restart₂ begun begun_voice begun_source voice_after frame_of source_after sampled_of same_cycle cycle_of parts_voice new_voice new_source clamped_settings random.drawn stepped xor_shl xor_shr mixed finalised next_state after step answer questions first_no settings_questions block_questions settings_known settings_finite transport_known transport_finite transport_in settings_at rate_at span_at smooth_at transport_at scale_at accepted played_state made new_state lib.Ieee.neg le lt eq of_bits with_settings pending_of
 words_at_starts = refl
 
 makes_held : makes held ≡ true
@@ -88,7 +88,7 @@ abbrev player₂ : JustMade
 player₂ = record { codes = held; seed = 7; accepted = makes_held }
 
 met : Hypotheses (at_restart restart₁) (at_restart restart₂) (transport_fields here)
-unfolding restart₁ restart₂ throughout window clamped_settings clamped_rate clamped_span after step answer questions first_no settings_questions block_questions settings_known settings_finite transport_known transport_finite transport_in settings_at with_switches with_spans rate_at span_at smooth_at transport_at scale_at accepted played_state made new_state lib.Ieee.neg le lt eq of_bits with_settings pending_of
+unfolding restart₁ restart₂ throughout window clamped_settings clamped_rate clamped_span after step answer questions first_no settings_questions block_questions settings_known settings_finite transport_known transport_finite transport_in settings_at rate_at span_at smooth_at transport_at scale_at accepted played_state made new_state lib.Ieee.neg le lt eq of_bits with_settings pending_of
 met =
     record {
       mode = inr refl;
@@ -105,12 +105,12 @@ met =
 
 -- both play two frames
 two₁ : (side : Side) → length (frames_from restart₁ side) ≡ 2
-unfolding restart₁ frames_from heard read buffer played values parts_outs outs after step answer questions first_no settings_questions block_questions settings_known settings_finite transport_known transport_finite transport_in settings_at with_switches with_spans rate_at span_at smooth_at transport_at scale_at accepted played_state made new_state lib.Ieee.neg le lt eq of_bits with_settings pending_of
+unfolding restart₁ frames_from heard read buffer played values parts_outs outs after step answer questions first_no settings_questions block_questions settings_known settings_finite transport_known transport_finite transport_in settings_at rate_at span_at smooth_at transport_at scale_at accepted played_state made new_state lib.Ieee.neg le lt eq of_bits with_settings pending_of
 two₁ x_side = refl
 two₁ y_side = refl
 
 two₂ : (side : Side) → length (frames_from restart₂ side) ≡ 2
-unfolding restart₂ frames_from heard read buffer played values parts_outs outs after step answer questions first_no settings_questions block_questions settings_known settings_finite transport_known transport_finite transport_in settings_at with_switches with_spans rate_at span_at smooth_at transport_at scale_at accepted played_state made new_state lib.Ieee.neg le lt eq of_bits with_settings pending_of
+unfolding restart₂ frames_from heard read buffer played values parts_outs outs after step answer questions first_no settings_questions block_questions settings_known settings_finite transport_known transport_finite transport_in settings_at rate_at span_at smooth_at transport_at scale_at accepted played_state made new_state lib.Ieee.neg le lt eq of_bits with_settings pending_of
 two₂ x_side = refl
 two₂ y_side = refl
 

@@ -1,4 +1,5 @@
 -- Every player that calls reach has settled settings, and curves that their kept points tell. Assumes nothing.
+use Rattle.std.specs.Prelude.{None, Option, Some}
 use Prim.Native.Nat.{ℕ}
 use mathlib.Core.Path.{◌≡◌, refl}
 use mathlib.Core.Bool.{true}
@@ -9,10 +10,6 @@ use Rattle.shape.specs.declared.Shape.{Shape}
 use Rattle.path.specs.declared.Path.{Path}
 use Rattle.settings.specs.declared.choices.LfoType.{LfoType}
 use Rattle.codes.specs.declared.SettingsCodes.{SettingsCodes}
-use Rattle.settings.specs.declared.record.SettingsCode.{SettingsCode}
-use Rattle.settings.specs.declared.record.SettingsCode.TheVariants as SettingsCode
-use Rattle.settings.specs.declared.record.TransportCode.{TransportCode}
-use Rattle.settings.specs.declared.record.TransportCode.TheVariants as TransportCode
 use Rattle.settings.specs.Codes.{settings_at, transport_at}
 use Rattle.settings.specs.Records.{default_settings}
 use Rattle.slot.specs.Slot.{slot_curve}
@@ -26,6 +23,8 @@ use Rattle.calls.proofs.Kept.{kept_after}
 use Rattle.restart.specs.Rule.{Equal}
 use Rattle.restart.proofs.Kept.{KeptShape, KeptPath, default_shape_lem, given_shape_lem, default_path_lem, given_path_lem, same_shape, same_path}
 use Rattle.restart.proofs.Settled.{Settled, settled_stored, settled_default, Fine, settings_fine}
+use Rattle.settings.specs.declared.record.Settings.{Settings}
+use Rattle.settings.specs.declared.record.Transport.{Transport}
 
 -- what every player has
 pub record Good (p : State) : Type 0 where
@@ -35,10 +34,10 @@ pub record Good (p : State) : Type 0 where
 
 -- ---- as it is made
 
-good_new : (seed : ℕ) (c : SettingsCode) → Fine c → Good (by_settings (no_player seed) c (λ s. new_state s seed))
+good_new : (seed : ℕ) (c : Option Settings) → Fine c → Good (by_settings (no_player seed) c (λ s. new_state s seed))
 unfolding new_state
-good_new seed (SettingsCode.Known s) f = record { settled = settled_stored s f; shape_kept = default_shape_lem; path_kept = default_path_lem }
-good_new seed SettingsCode.Unknown f = record { settled = settled_stored default_settings settled_default; shape_kept = default_shape_lem; path_kept = default_path_lem }
+good_new seed (Some s) f = record { settled = settled_stored s f; shape_kept = default_shape_lem; path_kept = default_path_lem }
+good_new seed None f = record { settled = settled_stored default_settings settled_default; shape_kept = default_shape_lem; path_kept = default_path_lem }
 
 pub good_made : (c : SettingsCodes) (seed : ℕ) → makes c ≡ true → Good (made c seed)
 unfolding made
@@ -46,15 +45,15 @@ good_made c seed e = rw e (good_new seed (settings_at c) (settings_fine c (setti
 
 -- ---- every call keeps it
 
-good_set : (p : State) (c : SettingsCode) → Fine c → Good p → Good (by_settings p c (with_settings p))
+good_set : (p : State) (c : Option Settings) → Fine c → Good p → Good (by_settings p c (with_settings p))
 unfolding with_settings
-good_set p (SettingsCode.Known s) f g = record { settled = settled_stored s f; shape_kept = g.shape_kept; path_kept = g.path_kept }
-good_set p SettingsCode.Unknown f g = g
+good_set p (Some s) f g = record { settled = settled_stored s f; shape_kept = g.shape_kept; path_kept = g.path_kept }
+good_set p None f g = g
 
-good_played : (p : State) (c : TransportCode) (n : ℕ) (at : _) → Good p → Good (by_transport p c (λ t. played_state p t n at))
+good_played : (p : State) (c : Option Transport) (n : ℕ) (at : _) → Good p → Good (by_transport p c (λ t. played_state p t n at))
 unfolding played_state
-good_played p (TransportCode.Known t) n at g = record { settled = g.settled; shape_kept = g.shape_kept; path_kept = g.path_kept }
-good_played p TransportCode.Unknown n at g = g
+good_played p (Some t) n at g = record { settled = g.settled; shape_kept = g.shape_kept; path_kept = g.path_kept }
+good_played p None n at g = g
 
 good_accepted : (p : State) (c : Call) → answer p c ≡ 0 → Good p → Good (accepted p c)
 unfolding accepted answer questions with_shape with_path with_bus

@@ -1,4 +1,5 @@
 -- Two restarts in blocks of the same constants leave voices that are alike, whatever the voices were. Assumes nothing.
+use Rattle.std.specs.Prelude.{None}
 use Prim.Native.Nat.{◌+◌, ◌-◌, ◌^◌, zero-le}
 use mathlib.Core.Path.{◌≡◌, refl, sym, ap, ap₂, ◌∙◌}
 use mathlib.Core.Logic.{◌⊎◌, inl, inr}
@@ -16,7 +17,6 @@ use Rattle.settings.specs.Times.{clamped_span}
 use Rattle.clock.specs.declared.anchor.Anchor.{Anchor}
 use Rattle.clock.specs.declared.anchor.Anchor.TheVariants.{Samples}
 use Rattle.clock.specs.declared.block.Block.{Block}
-use Rattle.clock.specs.declared.block.SongLock.TheVariants as SongLock
 use Rattle.clock.specs.Spans.{length_of, span_length, samples_of}
 use Rattle.voice.specs.declared.Voice.{Voice}
 use Rattle.voice.specs.Source.{attractor_at}
@@ -50,7 +50,7 @@ span_same d b b' e = rw (same (clamped_span d)) refl
 abbrev pub Starts : Block → Type 0
 Starts b = ((b.phase ≡ nan) ⊎ Size b.phase 2) × Size b.inc 1
 
-module _ (s : Settings) (b b' : Block) (m : Restarts s.mode) (l : b.song_lock ≡ SongLock.None) (l' : b'.song_lock ≡ SongLock.None)
+module _ (s : Settings) (b b' : Block) (m : Restarts s.mode) (l : b.song_lock ≡ None) (l' : b'.song_lock ≡ None)
     (e : constants_of b ≡ constants_of b') (i : Starts b') (v w : Voice) (mv : v.made_for ≡ w.made_for)
     (word : s.kind ≡ SampleAndHold → v.source.rng ≡ w.source.rng) where
   first : First (triggered_voice s b' w).anchor

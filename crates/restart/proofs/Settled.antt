@@ -1,12 +1,11 @@
 -- What holds of the settings of every player: no number in them is a NaN. Nothing is asked of the grid. Assumes nothing.
+use Rattle.std.specs.Prelude.{None, Option, Some}
 use mathlib.Core.Path.{◌≡◌, refl}
 use mathlib.Core.Bool.{true}
 use lib.Dec.{lit<}
 use lib.Ieee.{is_nan, of_bits}
 use Rattle.settings.specs.declared.record.Settings.{Settings}
 use Rattle.codes.specs.declared.SettingsCodes.{SettingsCodes}
-use Rattle.settings.specs.declared.record.SettingsCode.{SettingsCode}
-use Rattle.settings.specs.declared.record.SettingsCode.TheVariants as SettingsCode
 use Rattle.settings.specs.Codes.{settings_at}
 use Rattle.settings.specs.Records.{default_settings, clamped_settings}
 use Rattle.reach.specs.Bounds.{SettingsIn}
@@ -45,13 +44,13 @@ settled_default = record { rate_number = tt; phase_number = tt; grid_in = lit< t
 
 -- ---- settings from their codes
 
-abbrev pub Fine : SettingsCode → Type 0
-Fine (SettingsCode.Known s) = Settled s
-Fine SettingsCode.Unknown = Unit
+abbrev pub Fine : Option Settings → Type 0
+Fine (Some s) = Settled s
+Fine None = Unit
 
 pub settings_fine : (c : SettingsCodes) → settings_finite c ≡ true → Fine (settings_at c)
 settings_fine c h = go (settings_at c) refl
   where
-    go : (z : SettingsCode) → settings_at c ≡ z → Fine z
-    go (SettingsCode.Known s) e = let n = settings_numbers c s h e in record { rate_number = n.0; phase_number = n.1; grid_in = lit< tt }
-    go SettingsCode.Unknown e = tt
+    go : (z : Option Settings) → settings_at c ≡ z → Fine z
+    go (Some s) e = let n = settings_numbers c s h e in record { rate_number = n.0; phase_number = n.1; grid_in = lit< tt }
+    go None e = tt

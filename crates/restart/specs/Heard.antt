@@ -1,8 +1,6 @@
 -- What is heard of a list of calls up to the next restart or edit, and the transports of the blocks that it takes. Assumes nothing.
-use Rattle.std.specs.Prelude.{ℕ, min, cond, List, [], ◌∷◌, ◌++◌, take, Float}
+use Rattle.std.specs.Prelude.{ℕ, min, cond, List, [], ◌∷◌, ◌++◌, take, Float, None, Option, Some}
 use Rattle.codes.specs.declared.TransportCodes.{TransportCodes}
-use Rattle.bank.specs.declared.parts.Pending.{Pending}
-use Rattle.bank.specs.declared.parts.Pending.TheVariants.{None, At}
 use Rattle.codes.specs.declared.RestartCodes.{RestartCodes}
 use Rattle.calls.specs.State.{State}
 use Rattle.calls.specs.Blocks.{pending_of}
@@ -22,14 +20,14 @@ read y_side p c frames restart x y = take frames (buffer p c frames restart x y 
 -- ---- of an accepted block and what follows it, what comes before the next restart
 
 -- of its frames and those after it: with no restart all, and else the block's before its restart, "at its frame or, where that lies beyond the end, at the end"
-abbrev pub frames_up_to : Pending → ℕ → List Float → List Float → List Float
+abbrev pub frames_up_to : Option ℕ → ℕ → List Float → List Float → List Float
 frames_up_to None frames own later = own ++ later
-frames_up_to (At k) frames own later = take (min k frames) own
+frames_up_to (Some k) frames own later = take (min k frames) own
 
 -- of its transport and those after it: "the block of that next restart included"
-abbrev pub blocks_up_to : Pending → TransportCodes → List TransportCodes → List TransportCodes
+abbrev pub blocks_up_to : Option ℕ → TransportCodes → List TransportCodes → List TransportCodes
 blocks_up_to None own later = own ∷ later
-blocks_up_to (At k) own later = own ∷ []
+blocks_up_to (Some k) own later = own ∷ []
 
 -- ---- of a list of calls: a refused call adds nothing and ends nothing, and so does an accepted one that is neither a block nor an edit; an accepted edit is the end
 

@@ -17,7 +17,7 @@ use Rattle.curves.specs.Given.{is_yes, given_path}
 use Rattle.questions.specs.Questions.{first_no, path_questions}
 use Rattle.evaluate.specs.declared.Legs.{Legs}
 use Rattle.evaluate.specs.Values.{refused_legs, evaluated_legs}
-use Rattle.number.specs.declared.Writing.{Writing}
+use Rattle.std.specs.Prelude.{Option}
 use Rattle.fields.specs.Parser.{read}
 use Rattle.replies.specs.Replies.{bits_of, listed, WritesAll}
 use Rattle.outputs.specs.Output.{given_by}
@@ -66,7 +66,7 @@ module _ (c : PathCodes) {r : Legs} (r_is : r ≡ evaluated_legs c) where
   legs_numbers_lem = rw (← r_is) (by_answer r.answer r.count r.lengths (eqb r.answer 0) few.refused)
 
   pub legs_turned : (p : Player) → Valid p → {n : ℕ} → n ≡ how_many r.answer → (run o : List ℕ) (place at : ℕ)
-      → {v : Writing} {o' : List ℕ} → WritesAll o place (listed (take n (r.answer ∷ r.count ∷ [])) (take r.count r.lengths) []) v o'
+      → {v : Option ℕ} {o' : List ℕ} → WritesAll o place (listed (take n (r.answer ∷ r.count ∷ [])) (take r.count r.lengths) []) v o'
       → {k : Turn} → (following k ≡ turn_of v place at true (state_of p)) × (k.player ≡ p) → Turns run (given_of p run (read (legs c) at)) o place k o'
   unfolding given_by numbers state_after
   legs_turned p valid {n} n_is run o place at g k_is =

@@ -8,7 +8,7 @@ use lib.ListN.{take}
 use lib.Ieee.{Float}
 use Rattle.codes.specs.declared.TransportCodes.{TransportCodes}
 use Rattle.codes.specs.declared.RestartCodes.{RestartCodes}
-use Rattle.number.specs.declared.Writing.{Writing}
+use Rattle.std.specs.Prelude.{Option}
 use Rattle.calls.specs.Calls.{answer, buffer}
 use Rattle.calls.specs.Calls as Calls
 use Rattle.fields.specs.Parser.{read}
@@ -47,7 +47,7 @@ module _ {p : Player} {t : TransportCodes} {frames : ℕ} {at : RestartCodes} {x
 module _ {p : Player} {t : TransportCodes} {frames : ℕ} {at : RestartCodes} {x y : List Float} {r : Played} {x' y' : List Float}
     (w : Plays p t frames at x y r x' y')
     {n f : ℕ} (n_is : n ≡ how_many r.answer) (f_is : f ≡ flag_of r.finished) where
-  pub block_turned : (run o : List ℕ) (place next : ℕ) {v : Writing} {o' : List ℕ} → WritesAll o place (listed (take n (r.answer ∷ f ∷ [])) x' y') v o'
+  pub block_turned : (run o : List ℕ) (place next : ℕ) {v : Option ℕ} {o' : List ℕ} → WritesAll o place (listed (take n (r.answer ∷ f ∷ [])) x' y') v o'
       → {k : Turn} → (following k ≡ turn_of v place next true (state_of (with_deck p r.deck))) × (k.player ≡ with_deck p r.deck)
       → Turns run (given_of p run (read (call (Calls.block t frames at x y)) next)) o place k o'
   unfolding given_by numbers state_after

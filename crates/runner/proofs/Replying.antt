@@ -11,12 +11,10 @@ use Rattle.questions.specs.Answers.{Answer}
 use Rattle.calls.specs.State.{State}
 use Rattle.calls.specs.Calls.{Call, answer, accepts, accepted, step}
 use Rattle.calls.specs.Calls as Calls
-use Rattle.fields.specs.declared.reader.Place.{Place}
-use Rattle.fields.specs.Parser.{Parsed}
-use Rattle.fields.specs.Places.{onward, Reads}
+use Rattle.fields.specs.Parser.{Parsed, read, fault}
 use Rattle.outputs.specs.Numbers.{answer_numbers}
-use Rattle.outputs.specs.Output.{none, given_by}
-use Rattle.outputs.proofs.Given.{call_read, call_ill, call_none, make_ill, make_taken, make_refused}
+use Rattle.outputs.specs.Output.{given_by}
+use Rattle.outputs.proofs.Given.{call_ill, make_taken, make_refused}
 use Rattle.player.specs.declared.Player.{Player}
 use Rattle.player.specs.declared.Made.{Made}
 use Rattle.player.specs.declared.Changed.{Changed}
@@ -27,7 +25,8 @@ use Rattle.runner.specs.declared.values.Said.{Said}
 use Rattle.runner.specs.Asked.{Asked, call}
 use Rattle.runner.specs.Numbers.{call_numbers, numbers, state_after}
 use Rattle.runner.specs.Output.{make, players}
-use Rattle.runner.specs.Promises.{given_of, reply_of, Says, unchanged_by, Replies, RepliesTo, Begins}
+use Rattle.runner.specs.Promises.{given_of, reply_of, Says, unchanged_by, Replies}
+use Rattle.runner.specs.Promises as Promises
 
 -- what a reply to the call a says
 pub record Answers (p : Player) (a : Asked) (r : Reply) : Type 0 where
@@ -37,23 +36,21 @@ pub record Answers (p : Player) (a : Asked) (r : Reply) : Type 0 where
   pub state_is : state_of r.player ≡ state_after (state_of p) a
   pub valid : Valid r.player
 
-module _ (run : List ℕ) (p : Player) {q : ℕ → Parsed Asked} {from : Place} {a : Asked} {end : Place} (r : Reads q from a end) where
-  pub replies_read : end.fault ≡ 0 → (s : Reply) → s.at ≡ end.at → s.going ≡ true → Answers p a s → Replies run (given_of p run (onward from q)) s
-  unfolding given_by
-  replies_read good s at going w =
-      record {
-        long = w.long;
-        short = w.short;
-        given_is = λ most. call_read players run (state_of p) r good most ∙ rw (at, going, w.numbers_are, w.state_is);
-        valid = w.valid;
-      }
+pub replies_read : (run : List ℕ) (p : Player) {v : Parsed Asked} {a : Asked} {end : ℕ} → read a end ≡ v → (s : Reply) → s.at ≡ end → s.going ≡ true → Answers p a s
+    → Replies run (given_of p run v) s
+unfolding given_by
+replies_read run p r s at going w =
+    rw (← r)
+    (record {
+      long = w.long;
+      short = w.short;
+      given_is = λ most. rw (at, going, w.numbers_are, w.state_is);
+      valid = w.valid;
+    })
 
-  pub replies_ill : (end.fault ≡ 0 → ⊥) → Valid p → Replies run (given_of p run (onward from q)) (reply_of 255 0 false p)
-  replies_ill bad v = record { long = refl; short = omega arith; given_is = call_ill players run (state_of p) r bad; valid = v }
-
--- no call, from wherever
-pub replies_none : (run : List ℕ) (p : Player) (from : Place) → Valid p → RepliesTo none run from p (reply_of 255 0 false p)
-replies_none run p from v = record { long = refl; short = omega arith; given_is = call_none players run (state_of p) from; valid = v }
+-- malformed bytes
+pub replies_ill : (run : List ℕ) (p : Player) {v : Parsed Asked} {n : ℕ} → fault n ≡ v → Valid p → Replies run (given_of p run v) (reply_of 255 0 false p)
+replies_ill run p r v = record { long = refl; short = omega arith; given_is = call_ill players run (state_of p) r; valid = v }
 
 -- a call that sets something
 pub edit_answers : {p : Player} {c : Call} {r : Changed} → Changes p c r → call_numbers (state_of p) c ≡ answer (state_of p) c ∷ []
@@ -78,19 +75,15 @@ phase_stays p t = by_answer (accepts p (Calls.phase t))
 
 -- ---- making a player
 
-module _ {run : List ℕ} {c : SettingsCodes} {seed : ℕ} {end : Place} (r : Reads (make run) (record { at = 0; fault = 0 }) (c, seed) end)
-    {m : Made} (w : Makes c seed m) where
-  pub begins_ill : (end.fault ≡ 0 → ⊥) → Begins run (reply_of 255 0 false m.player)
-  begins_ill bad = record { long = refl; short = omega arith; given_is = make_ill players run r bad; valid = w.valid }
-
-  pub begins_made : end.fault ≡ 0 → m.answer ≡ 0 → Begins run (reply_of 0 end.at true m.player)
-  begins_made good z =
+module _ {run : List ℕ} {c : SettingsCodes} {seed at : ℕ} (r : read (c, seed) at ≡ make run 0) {m : Made} (w : Makes c seed m) where
+  pub begins_made : m.answer ≡ 0 → Promises.Made run (reply_of 0 at true m.player)
+  begins_made z =
       record {
         long = refl;
         short = omega arith;
-        given_is = make_taken players run r good (sym w.answer_is ∙ z) ∙ rw w.state_is;
+        given_is = make_taken players run r (sym w.answer_is ∙ z) ∙ rw w.state_is;
         valid = w.valid;
       }
 
-  pub begins_refused : end.fault ≡ 0 → (m.answer ≡ 0 → ⊥) → Begins run (reply_of m.answer 0 false m.player)
-  begins_refused good z = record { long = refl; short = omega arith; given_is = make_refused players run r good w.answer_is z; valid = w.valid }
+  pub begins_refused : (m.answer ≡ 0 → ⊥) → Promises.Made run (reply_of m.answer 0 false m.player)
+  begins_refused z = record { long = refl; short = omega arith; given_is = make_refused players run r w.answer_is z; valid = w.valid }

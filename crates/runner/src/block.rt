@@ -6,9 +6,9 @@ ghost use Rattle.runner.specs.Asked.{block_asked, block_call};
 ghost use Rattle.runner.specs.Promises.{TurnsOn, TurnsBy};
 
 use super::Turn;
-use super::writing::{how_many, malformed, turn_of, write_reply};
+use super::writing::{how_many, turn_of};
 use codes::{RestartCodes, TransportCodes};
-use fields::Place;
+use fields::Fault;
 use player::Player;
 
 // The most elements of a buffer.
@@ -87,30 +87,31 @@ fn play_anew(
 }
 
 // Reads a block's bytes, plays it, and writes what it gives.
-pub fn block_turn(run: &[u8], from: Place, p: Player, out: &mut [u8], place: usize) -> Turn
+#[tactic(auto, unfolding(crate::specs::Asked::block_call, fields::specs::Parser::after))]
+pub fn block_turn(
+    run: &[u8],
+    at: usize,
+    p: Player,
+    out: &mut [u8],
+    place: usize,
+) -> Result<Turn, Fault>
     requires { Valid p }
-    ensures { TurnsOn block_call run.now from p out.old place result out.new }
+    ensures { TurnsOn block_call run.now at p out.old place result out.new }
 {
-    let t = runs::read_transport(run, from);
-    let frames = fields::read_number(run, t.next);
-    let restart = runs::read_restart(run, frames.next);
-    let x = fields::read_below(run, restart.next, LIMIT);
-    let y = fields::read_below(run, x.next, LIMIT);
-    let next = y.next;
-    if next.fault == 0 {
-        let codes = t.value;
-        let restart_codes = restart.value;
-        return play_anew(
-            codes,
-            frames.value,
-            restart_codes,
-            x.value as usize,
-            y.value as usize,
-            next.at,
-            p,
-            out,
-            place,
-        );
-    }
-    write_reply(out, place, malformed(p))
+    let (transport, at) = runs::read_transport(run, at)?;
+    let (frames, at) = fields::read_number(run, at)?;
+    let (restart, at) = runs::read_restart(run, at)?;
+    let (x_len, at) = fields::read_below(run, at, LIMIT)?;
+    let (y_len, at) = fields::read_below(run, at, LIMIT)?;
+    Ok(play_anew(
+        transport,
+        frames,
+        restart,
+        x_len as usize,
+        y_len as usize,
+        at,
+        p,
+        out,
+        place,
+    ))
 }

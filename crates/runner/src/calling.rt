@@ -5,7 +5,7 @@ ghost use Rattle.outputs.specs.Turns.{Finishes};
 ghost use Rattle.player.specs.Player.{state_of, Valid};
 ghost use Rattle.runner.specs.Asked.{by_tag, asked};
 ghost use Rattle.runner.specs.Output.{players};
-ghost use Rattle.runner.specs.Promises.{given_of, Begins, RepliesTo, Turns};
+ghost use Rattle.runner.specs.Promises.{given_of, Begins, RepliesTo, Turns, TurnsOn};
 
 use super::block::block_turn;
 use super::edits::{bus_reply, path_reply, settings_reply, shape_reply};
@@ -13,44 +13,55 @@ use super::legs::legs_turn;
 use super::values::{path_at_reply, phase_reply, shape_at_reply};
 use super::writing::{malformed, reply, write_reply};
 use super::{Reply, Turn};
-use fields::Place;
+use fields::Fault;
 use player::Player;
 
 // The run's first bytes make a player. "Where making is refused the output ends after its number."
-pub fn made(run: &[u8]) -> Reply
+#[tactic(auto, unfolding(crate::specs::Output::make, fields::specs::Parser::after))]
+pub fn made(run: &[u8]) -> Result<Reply, Fault>
     ensures { Begins run.now result }
 {
-    let start = Place { at: 0, fault: 0 };
-    let c = runs::read_settings(run, start);
-    let seed = fields::read_number(run, c.next);
-    let next = seed.next;
-    let codes = c.value;
-    let r = player::make(codes, seed.value);
-    let p = r.player;
-    if next.fault == 0 {
-        if r.answer == 0 {
-            return reply(0, next.at, true, p);
-        }
-        return reply(r.answer as u64, 0, false, p);
+    let (codes, at) = runs::read_settings(run, 0)?;
+    let (seed, at) = fields::read_number(run, at)?;
+    let made = player::make(codes, seed);
+    if made.answer == 0 {
+        Ok(reply(0, at, true, made.player))
+    } else {
+        Ok(reply(made.answer as u64, 0, false, made.player))
     }
-    malformed(p)
 }
 
 // A call that gives no list of floats, by its tag.
-fn reply_of(run: &[u8], tag: u64, from: Place, p: Player) -> Reply
+fn reply_of(run: &[u8], tag: u64, at: usize, p: Player) -> Result<Reply, Fault>
     requires { Valid p × (tag ≡ 5 → ⊥) × (tag ≡ 8 → ⊥) }
-    ensures { RepliesTo (get_or by_tag tag none) run.now from p result }
+    ensures { RepliesTo (get_or by_tag tag none) run.now at p result }
 {
     match tag {
-        0 => settings_reply(run, from, p),
-        1 => shape_reply(run, from, p),
-        2 => path_reply(run, from, p),
-        3 => bus_reply(run, from, p),
-        4 => phase_reply(run, from, p),
-        6 => shape_at_reply(run, from, p),
-        7 => path_at_reply(run, from, p),
-        _ => malformed(p),
+        0 => settings_reply(run, at, p),
+        1 => shape_reply(run, at, p),
+        2 => path_reply(run, at, p),
+        3 => bus_reply(run, at, p),
+        4 => phase_reply(run, at, p),
+        6 => shape_at_reply(run, at, p),
+        7 => path_at_reply(run, at, p),
+        _ => Err(Fault::BadNumber), // a tag of no call
     }
+}
+
+// One call, by its tag.
+fn by_tag(run: &[u8], at: usize, out: &mut [u8], place: usize, p: Player) -> Result<Turn, Fault>
+    requires { Valid p }
+    ensures { TurnsOn asked run.now at p out.old place result out.new }
+{
+    let (tag, at) = fields::read_number(run, at)?;
+    if tag == 5 {
+        return block_turn(run, at, p, out, place);
+    }
+    if tag == 8 {
+        return legs_turn(run, at, p, out, place);
+    }
+    let reply = reply_of(run, tag, at, p)?;
+    Ok(write_reply(out, place, reply))
 }
 
 // One call.
@@ -58,16 +69,10 @@ fn call(run: &[u8], at: usize, out: &mut [u8], place: usize, p: Player) -> Turn
     requires { Valid p }
     ensures { Turns run.now (given_of p run.now (asked run.now at)) out.old place result out.new }
 {
-    let start = Place { at, fault: 0 };
-    let tag = fields::read_number(run, start);
-    let from = tag.next;
-    if tag.value == 5 {
-        return block_turn(run, from, p, out, place);
+    match by_tag(run, at, out, place, p) {
+        Ok(turn) => turn,
+        Err(_) => write_reply(out, place, malformed(p)),
     }
-    if tag.value == 8 {
-        return legs_turn(run, from, p, out, place);
-    }
-    write_reply(out, place, reply_of(run, tag.value, from, p))
 }
 
 // The calls from `from` on. Each takes a byte or more, so there are no more of them than bytes.
@@ -78,8 +83,7 @@ pub fn calls(run: &[u8], from: usize, out: &mut [u8], start: usize, first: Playe
     let mut at = from;
     let mut place = start;
     let mut p = first;
-    let mut turn: usize = 0;
-    while turn < run.len() {
+    for _ in 0..run.len() {
         if run.len() <= at {
             return place;
         }
@@ -87,9 +91,7 @@ pub fn calls(run: &[u8], from: usize, out: &mut [u8], start: usize, first: Playe
         place = t.place;
         if t.going {
             at = t.at;
-            let next = t.player;
-            p = next;
-            turn += 1;
+            p = t.player;
         } else {
             return place;
         }

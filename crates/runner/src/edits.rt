@@ -4,62 +4,47 @@ ghost use Rattle.runner.specs.Asked.{settings_call, shape_call, path_call, bus_c
 ghost use Rattle.runner.specs.Promises.{RepliesTo};
 
 use super::Reply;
-use super::writing::{edited, malformed};
-use fields::Place;
+use super::writing::edited;
+use fields::Fault;
 use player::Player;
 
 // Tag 0: the settings.
-pub fn settings_reply(run: &[u8], from: Place, p: Player) -> Reply
+#[tactic(auto, unfolding(crate::specs::Asked::settings_call, fields::specs::Parser::after))]
+pub fn settings_reply(run: &[u8], at: usize, p: Player) -> Result<Reply, Fault>
     requires { Valid p }
-    ensures { RepliesTo settings_call run.now from p result }
+    ensures { RepliesTo settings_call run.now at p result }
 {
-    let c = runs::read_settings(run, from);
-    let next = c.next;
-    if next.fault == 0 {
-        let codes = c.value;
-        return edited(player::set_settings(p, codes), next.at);
-    }
-    malformed(p)
+    let (codes, at) = runs::read_settings(run, at)?;
+    Ok(edited(player::set_settings(p, codes), at))
 }
 
 // Tag 1: the shape.
-pub fn shape_reply(run: &[u8], from: Place, p: Player) -> Reply
+#[tactic(auto, unfolding(crate::specs::Asked::shape_call, fields::specs::Parser::after))]
+pub fn shape_reply(run: &[u8], at: usize, p: Player) -> Result<Reply, Fault>
     requires { Valid p }
-    ensures { RepliesTo shape_call run.now from p result }
+    ensures { RepliesTo shape_call run.now at p result }
 {
-    let s = runs::read_shape(run, from);
-    let next = s.next;
-    if next.fault == 0 {
-        let codes = s.value;
-        return edited(player::set_shape(p, codes), next.at);
-    }
-    malformed(p)
+    let (codes, at) = runs::read_shape(run, at)?;
+    Ok(edited(player::set_shape(p, codes), at))
 }
 
 // Tag 2: the path.
-pub fn path_reply(run: &[u8], from: Place, p: Player) -> Reply
+#[tactic(auto, unfolding(crate::specs::Asked::path_call, fields::specs::Parser::after))]
+pub fn path_reply(run: &[u8], at: usize, p: Player) -> Result<Reply, Fault>
     requires { Valid p }
-    ensures { RepliesTo path_call run.now from p result }
+    ensures { RepliesTo path_call run.now at p result }
 {
-    let s = runs::read_path(run, from);
-    let next = s.next;
-    if next.fault == 0 {
-        let codes = s.value;
-        return edited(player::set_path(p, codes), next.at);
-    }
-    malformed(p)
+    let (codes, at) = runs::read_path(run, at)?;
+    Ok(edited(player::set_path(p, codes), at))
 }
 
 // Tag 3: one bus.
-pub fn bus_reply(run: &[u8], from: Place, p: Player) -> Reply
+#[tactic(auto, unfolding(crate::specs::Asked::bus_call, fields::specs::Parser::after))]
+pub fn bus_reply(run: &[u8], at: usize, p: Player) -> Result<Reply, Fault>
     requires { Valid p }
-    ensures { RepliesTo bus_call run.now from p result }
+    ensures { RepliesTo bus_call run.now at p result }
 {
-    let bus = fields::read_number(run, from);
-    let value = fields::read_f32(run, bus.next);
-    let next = value.next;
-    if next.fault == 0 {
-        return edited(player::set_bus(p, bus.value, value.value), next.at);
-    }
-    malformed(p)
+    let (bus, at) = fields::read_number(run, at)?;
+    let (value, at) = fields::read_f32(run, at)?;
+    Ok(edited(player::set_bus(p, bus, value), at))
 }

@@ -4,9 +4,9 @@ ghost use Rattle.runner.specs.Asked.{legs, legs_call};
 ghost use Rattle.runner.specs.Promises.{TurnsOn, TurnsBy};
 
 use super::Turn;
-use super::writing::{how_many, malformed, turn_of, write_reply};
+use super::writing::{how_many, turn_of};
 use codes::PathCodes;
-use fields::Place;
+use fields::Fault;
 use player::Player;
 
 // Evaluates the legs of a path, and writes what that gives.
@@ -24,15 +24,17 @@ fn measure(c: PathCodes, at: usize, p: Player, out: &mut [u8], place: usize) -> 
 }
 
 // Reads a path's bytes, evaluates its legs, and writes what that gives.
-pub fn legs_turn(run: &[u8], from: Place, p: Player, out: &mut [u8], place: usize) -> Turn
+#[tactic(auto, unfolding(crate::specs::Asked::legs_call, fields::specs::Parser::after))]
+pub fn legs_turn(
+    run: &[u8],
+    at: usize,
+    p: Player,
+    out: &mut [u8],
+    place: usize,
+) -> Result<Turn, Fault>
     requires { Valid p }
-    ensures { TurnsOn legs_call run.now from p out.old place result out.new }
+    ensures { TurnsOn legs_call run.now at p out.old place result out.new }
 {
-    let s = runs::read_path(run, from);
-    let next = s.next;
-    if next.fault == 0 {
-        let codes = s.value;
-        return measure(codes, next.at, p, out, place);
-    }
-    write_reply(out, place, malformed(p))
+    let (codes, at) = runs::read_path(run, at)?;
+    Ok(measure(codes, at, p, out, place))
 }

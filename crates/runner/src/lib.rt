@@ -11,10 +11,11 @@ mod writing;
 ghost use Rattle.runner.specs.Output.{Runs};
 
 use player::Player;
+use writing::MALFORMED;
 
 // What a call that gives no list of floats gives: the first `count` of the numbers; from where in the run it goes on, if it goes on; and the
 // player after it.
-#[derive(Drop)]
+#[derive(Clone, Copy)]
 pub struct Reply {
     pub numbers: [u64; 3],
     pub count: usize,
@@ -24,7 +25,7 @@ pub struct Reply {
 }
 
 // How it goes on after a call's numbers were written: from where in the run, if it goes on; from where in the output; and the player.
-#[derive(Drop)]
+#[derive(Clone, Copy)]
 pub struct Turn {
     pub at: usize,
     pub going: bool,
@@ -37,12 +38,12 @@ pub struct Turn {
 pub extern "C" fn lfo_run(run: &[u8], out: &mut [u8]) -> u64
     ensures { Runs run.now out.old result out.new }
 {
-    let r = calling::made(run);
-    let t = writing::write_reply(out, 0, r);
-    let place = t.place;
+    let Ok(first) = calling::made(run) else {
+        return replies::write_numbers(out, 0, &[MALFORMED]).unwrap_or(0) as u64;
+    };
+    let t = writing::write_reply(out, 0, first);
     if t.going {
-        let p = t.player;
-        return calling::calls(run, t.at, out, place, p) as u64;
+        return calling::calls(run, t.at, out, t.place, t.player) as u64;
     }
-    place as u64
+    t.place as u64
 }

@@ -7,13 +7,12 @@ ghost use Rattle.runner.specs.Asked.{phase_call, shape_at_call, path_at_call};
 ghost use Rattle.runner.specs.Promises.{unchanged_by, Says, RepliesTo};
 
 use super::Reply;
-use super::writing::malformed;
 use evaluate::{PathResult, ShapeResult};
-use fields::Place;
+use fields::Fault;
 use player::{PhaseResult, Player};
 
 // The first `count` of the numbers.
-#[derive(Drop)]
+#[derive(Clone, Copy)]
 pub struct Said {
     pub numbers: [u64; 3],
     pub count: usize,
@@ -82,48 +81,35 @@ fn phase_says(v: PhaseResult) -> Said
 }
 
 // Tag 4: the phase.
-pub fn phase_reply(run: &[u8], from: Place, p: Player) -> Reply
+#[tactic(auto, unfolding(crate::specs::Asked::phase_call, fields::specs::Parser::after))]
+pub fn phase_reply(run: &[u8], at: usize, p: Player) -> Result<Reply, Fault>
     requires { Valid p }
-    ensures { RepliesTo phase_call run.now from p result }
+    ensures { RepliesTo phase_call run.now at p result }
 {
-    let t = runs::read_transport(run, from);
-    let next = t.next;
-    if next.fault == 0 {
-        let codes = t.value;
-        let v = player::phase(p, codes);
-        return unchanged(phase_says(v), next.at, p);
-    }
-    malformed(p)
+    let (codes, at) = runs::read_transport(run, at)?;
+    Ok(unchanged(phase_says(player::phase(p, codes)), at, p))
 }
 
 // Tag 6: a shape at x.
-pub fn shape_at_reply(run: &[u8], from: Place, p: Player) -> Reply
+#[tactic(auto, unfolding(crate::specs::Asked::shape_at_call, fields::specs::Parser::after))]
+pub fn shape_at_reply(run: &[u8], at: usize, p: Player) -> Result<Reply, Fault>
     requires { Valid p }
-    ensures { RepliesTo shape_at_call run.now from p result }
+    ensures { RepliesTo shape_at_call run.now at p result }
 {
-    let s = runs::read_shape(run, from);
-    let x = fields::read_f32(run, s.next);
-    let next = x.next;
-    if next.fault == 0 {
-        let codes = s.value;
-        let v = evaluate::evaluate_shape(codes, x.value);
-        return unchanged(shape_says(v), next.at, p);
-    }
-    malformed(p)
+    let (codes, at) = runs::read_shape(run, at)?;
+    let (x, at) = fields::read_f32(run, at)?;
+    let said = shape_says(evaluate::evaluate_shape(codes, x));
+    Ok(unchanged(said, at, p))
 }
 
 // Tag 7: a path at t.
-pub fn path_at_reply(run: &[u8], from: Place, p: Player) -> Reply
+#[tactic(auto, unfolding(crate::specs::Asked::path_at_call, fields::specs::Parser::after))]
+pub fn path_at_reply(run: &[u8], at: usize, p: Player) -> Result<Reply, Fault>
     requires { Valid p }
-    ensures { RepliesTo path_at_call run.now from p result }
+    ensures { RepliesTo path_at_call run.now at p result }
 {
-    let s = runs::read_path(run, from);
-    let t = fields::read_f32(run, s.next);
-    let next = t.next;
-    if next.fault == 0 {
-        let codes = s.value;
-        let v = evaluate::evaluate_path(codes, t.value);
-        return unchanged(path_says(v), next.at, p);
-    }
-    malformed(p)
+    let (codes, at) = runs::read_path(run, at)?;
+    let (t, at) = fields::read_f32(run, at)?;
+    let said = path_says(evaluate::evaluate_path(codes, t));
+    Ok(unchanged(said, at, p))
 }

@@ -5,7 +5,6 @@ ghost use Rattle.player.specs.Player.{state_of, Valid};
 ghost use Rattle.runner.specs.Promises.{how_many, reply_of, replied, following, Turns};
 
 use super::{Reply, Turn};
-use number::Writing;
 use player::{Changed, Player};
 
 // How many numbers come before lists of floats: the answer, and where it is 0 one more.
@@ -38,24 +37,26 @@ pub fn edited(r: Changed, at: usize) -> Reply
 }
 
 // "Where the bytes of a call are malformed, the output ends with the number 255".
+pub const MALFORMED: u64 = 255;
+
 pub fn malformed(p: Player) -> Reply
     ensures { result ≡ reply_of 255 0 false p }
 {
-    reply(255, 0, false, p)
+    reply(MALFORMED, 0, false, p)
 }
 
 // Where the run goes on after a call whose numbers were written at `place`, or had no room.
-pub fn turn_of(w: Writing, place: usize, at: usize, going: bool, p: Player) -> Turn
+pub fn turn_of(w: Option<usize>, place: usize, at: usize, going: bool, p: Player) -> Turn
     ensures { (following result ≡ turn_of w place at going (state_of p)) × (result.player ≡ p) }
 {
     match w {
-        Writing::Next(after) => Turn {
+        Some(after) => Turn {
             at,
             going,
             place: after,
             player: p,
         },
-        Writing::NoRoom => Turn {
+        None => Turn {
             at,
             going: false,
             place,

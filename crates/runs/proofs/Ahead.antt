@@ -10,9 +10,10 @@ use borrow.Author.Tests.{ltb-true}
 use lib.Dec.{ltb}
 use lib.ListN.{length, drop, get_or, take, length-drop}
 use Rattle.floatlaws.specs.Numbers.{f32_0}
-use Rattle.number.specs.declared.Reading.TheVariants.{Number, CutShort, Bad}
-use Rattle.number.specs.Read.{leading, number_of, shortest, judged, read_from, read_at}
-use Rattle.number.proofs.Exact.{below_small}
+use Rattle.std.specs.Prelude.{Ok, Err}
+use Rattle.number.specs.declared.Fault.TheVariants.{CutShort, BadNumber}
+use Rattle.number.specs.Read.{Reading, leading, number_of, shortest, judged, read_from, read_at}
+use Rattle.number.proofs.Exact.{err_is_none, same_parts, below_small}
 use Rattle.fields.specs.Parser.{read, Parser, ◌then◌, done, when}
 use Rattle.fields.specs.Fields.{number, below, f32, f64}
 use Rattle.fields.proofs.Chains.{was_read, same_place}
@@ -59,16 +60,16 @@ module _ {A B : Type 0} (p : Parser A) (f : A → Parser B) where
 
 -- the place after a number
 module _ (run : List ℕ) (at v next : ℕ) where
-  judged_next : (k b value end : ℕ) → judged k b value end ≡ Number v next → next ≡ end
+  judged_next : (k b value end : ℕ) → judged k b value end ≡ Ok (v, next) → next ≡ end
   unfolding judged
   judged_next k b value end = by_tests (shortest k b) (ltb value (2 ^ 64))
     where
-      by_tests : (s t : Bool) → cond s (cond t (Number value end) Bad) Bad ≡ Number v next → next ≡ end
-      by_tests true true e = cc e
-      by_tests true false e = let z : ◌≡◌ {A = ℕ} 0 1 = cc e in absurd (omega arith)
-      by_tests false t e = let z : ◌≡◌ {A = ℕ} 0 1 = cc e in absurd (omega arith)
+      by_tests : (s t : Bool) → cond {A = Reading} s (cond {A = Reading} t (Ok (value, end)) (Err BadNumber)) (Err BadNumber) ≡ Ok (v, next) → next ≡ end
+      by_tests true true e = (same_parts e).1
+      by_tests true false e = absurd (err_is_none e)
+      by_tests false t e = absurd (err_is_none e)
 
-  number_ahead : read_at run at ≡ Number v next → (at < next) × (next ≤ length run)
+  number_ahead : read_at run at ≡ Ok (v, next) → (at < next) × (next ≤ length run)
   unfolding read_at read_from
   number_ahead e = by_test (ltb k (length l)) refl e
     where
@@ -78,7 +79,7 @@ module _ (run : List ℕ) (at v next : ℕ) where
       k : ℕ
       k = leading l
 
-      by_test : (t : Bool) → ltb k (length l) ≡ t → cond t (judged k (get_or l k 0) (number_of (take (suc k) l)) (at + suc k)) CutShort ≡ Number v next
+      by_test : (t : Bool) → ltb k (length l) ≡ t → cond t (judged k (get_or l k 0) (number_of (take (suc k) l)) (at + suc k)) (Err CutShort) ≡ Ok (v, next)
           → (at < next) × (next ≤ length run)
       by_test true inside e =
           let place : next ≡ at + suc k = judged_next k _ _ _ e in

@@ -2,13 +2,11 @@
 // `fields`, whose `specs/Parser.antt` says how readings follow each other; `specs/Records.antt` and `specs/Curves.antt` say what they make.
 #![tactic(auto)]
 
+mod kept;
 mod paths;
 mod records;
 mod shapes;
 
-pub use paths::{PathRead, read_path};
-pub use records::{
-    RestartRead, SettingsRead, TransportRead, read_restart, read_scale, read_settings,
-    read_transport,
-};
-pub use shapes::{ShapeRead, read_shape};
+pub use paths::read_path;
+pub use records::{read_restart, read_scale, read_settings, read_transport};
+pub use shapes::read_shape;

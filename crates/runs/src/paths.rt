@@ -1,87 +1,61 @@
 // Paths.
-ghost use Rattle.fields.specs.Places.{Reads};
+ghost use Rattle.std.specs.Prelude.{◌≡◌};
+ghost use Rattle.fields.specs.Fields.{parsed};
 ghost use Rattle.runs.specs.Curves.{path_point, path_points, path};
 
+use super::kept::read_kept;
 use super::shapes::read_mod;
 use codes::{PathCodes, PathPointCodes, blank_path_points};
-use fields::{Place, read_below, read_f32, read_number};
+use fields::{Fault, read_below, read_f32, read_number};
 use points::MAX_POINTS;
 
-#[derive(Drop)]
-pub struct PathPointRead {
-    pub value: PathPointCodes,
-    pub next: Place,
-}
-
-#[derive(Drop)]
-pub struct PathPointsRead {
-    pub value: [PathPointCodes; MAX_POINTS],
-    pub next: Place,
-}
-
-#[derive(Drop)]
-pub struct PathRead {
-    pub value: PathCodes,
-    pub next: Place,
-}
-
-fn read_path_point(run: &[u8], from: Place) -> PathPointRead
-    ensures { Reads (path_point run.now) from result.value result.next }
+#[tactic(auto, unfolding(crate::specs::Curves::path_point, fields::specs::Parser::after))]
+fn read_path_point(run: &[u8], at: usize) -> Result<(PathPointCodes, usize), Fault>
+    ensures { parsed result ≡ path_point run.now at }
 {
-    let x = read_f32(run, from);
-    let y = read_f32(run, x.next);
-    let bend = read_f32(run, y.next);
-    let x_mod = read_mod(run, bend.next);
-    let y_mod = read_mod(run, x_mod.next);
-    let x_mod_codes = x_mod.value;
-    let y_mod_codes = y_mod.value;
-    let next = y_mod.next;
-    PathPointRead {
-        value: PathPointCodes {
-            x: x.value,
-            y: y.value,
-            bend: bend.value,
-            x_mod: x_mod_codes,
-            y_mod: y_mod_codes,
-        },
-        next,
-    }
+    let (x, at) = read_f32(run, at)?;
+    let (y, at) = read_f32(run, at)?;
+    let (bend, at) = read_f32(run, at)?;
+    let (x_mod, at) = read_mod(run, at)?;
+    let (y_mod, at) = read_mod(run, at)?;
+    let point = PathPointCodes {
+        x,
+        y,
+        bend,
+        x_mod,
+        y_mod,
+    };
+    Ok((point, at))
 }
 
 // Reads `count` points and keeps the first 64.
-fn read_path_points(run: &[u8], from: Place, count: usize) -> PathPointsRead
-    ensures { Reads (path_points count run.now) from result.value result.next }
+fn read_path_points(
+    run: &[u8],
+    at: usize,
+    count: usize,
+) -> Result<([PathPointCodes; MAX_POINTS], usize), Fault>
+    ensures { parsed result ≡ path_points count run.now at }
 {
-    let mut kept = blank_path_points();
-    let mut next = from;
-    let mut i = 0;
-    while i < count {
-        let p = read_path_point(run, next);
-        if i < MAX_POINTS {
-            let codes = p.value;
-            kept[i] = codes;
-        }
-        let after = p.next;
-        next = after;
-        i += 1;
-    }
-    PathPointsRead { value: kept, next }
+    read_kept(
+        at,
+        count,
+        blank_path_points(),
+        |at| read_path_point(run, at),
+    )
 }
 
-pub fn read_path(run: &[u8], from: Place) -> PathRead
-    ensures { Reads (path run.now) from result.value result.next }
+#[tactic(auto, unfolding(crate::specs::Curves::path, fields::specs::Parser::after))]
+pub fn read_path(run: &[u8], at: usize) -> Result<(PathCodes, usize), Fault>
+    ensures { parsed result ≡ path run.now at }
 {
-    let count = read_below(run, from, 4097);
-    let closed = read_number(run, count.next);
-    let points = read_path_points(run, closed.next, count.value as usize);
-    let kept = points.value;
-    let next = points.next;
-    PathRead {
-        value: PathCodes {
-            points: kept,
-            count: count.value as usize,
-            closed: closed.value,
-        },
-        next,
-    }
+    let (count, at) = read_below(run, at, 4097)?;
+    let count = count as usize;
+    let (closed, at) = read_number(run, at)?;
+    let (points, at) = read_path_points(run, at, count)?;
+    let path = PathCodes {
+        points,
+        count,
+        closed,
+    };
+    Ok((path, at))
 }

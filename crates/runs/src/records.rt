@@ -1,200 +1,128 @@
 // Settings, transports and restarts.
-ghost use Rattle.fields.specs.Places.{Reads};
+ghost use Rattle.std.specs.Prelude.{◌≡◌};
+ghost use Rattle.fields.specs.Fields.{parsed};
 ghost use Rattle.runs.specs.Records.{rate, span, smooth, settings, scale, transport, restart};
 
 use codes::{
     RateCodes, RestartCodes, ScaleCodes, SettingsCodes, SmoothCodes, SpanCodes, TransportCodes,
 };
-use fields::{Place, read_f32, read_f32_if, read_f64, read_number, read_number_if, read_short};
+use fields::{Fault, read_f32, read_f64, read_if, read_number, read_short};
 
-#[derive(Drop)]
-pub struct RateRead {
-    pub value: RateCodes,
-    pub next: Place,
-}
-
-#[derive(Drop)]
-pub struct SpanRead {
-    pub value: SpanCodes,
-    pub next: Place,
-}
-
-#[derive(Drop)]
-pub struct SmoothRead {
-    pub value: SmoothCodes,
-    pub next: Place,
-}
-
-#[derive(Drop)]
-pub struct SettingsRead {
-    pub value: SettingsCodes,
-    pub next: Place,
-}
-
-#[derive(Drop)]
-pub struct ScaleRead {
-    pub value: ScaleCodes,
-    pub next: Place,
-}
-
-#[derive(Drop)]
-pub struct TransportRead {
-    pub value: TransportCodes,
-    pub next: Place,
-}
-
-#[derive(Drop)]
-pub struct RestartRead {
-    pub value: RestartCodes,
-    pub next: Place,
-}
-
-fn read_rate(run: &[u8], from: Place) -> RateRead
-    ensures { Reads (rate run.now) from result.value result.next }
+#[tactic(auto, unfolding(crate::specs::Records::rate, fields::specs::Parser::after))]
+fn read_rate(run: &[u8], at: usize) -> Result<(RateCodes, usize), Fault>
+    ensures { parsed result ≡ rate run.now at }
 {
-    let code = read_number(run, from);
-    let division = read_number_if(run, code.next, code.value == 0);
-    let feel = read_number_if(run, division.next, code.value == 0);
-    let hz = read_f32_if(run, feel.next, code.value == 1);
-    let x10 = read_number_if(run, hz.next, code.value == 1);
-    let next = x10.next;
-    RateRead {
-        value: RateCodes {
-            code: code.value,
-            division: division.value,
-            feel: feel.value,
-            hz: hz.value,
-            x10: x10.value,
-        },
-        next,
-    }
+    let (code, at) = read_number(run, at)?;
+    let (division, at) = read_if(at, code == 0, 0, |at| read_number(run, at))?;
+    let (feel, at) = read_if(at, code == 0, 0, |at| read_number(run, at))?;
+    let (hz, at) = read_if(at, code == 1, 0.0, |at| read_f32(run, at))?;
+    let (x10, at) = read_if(at, code == 1, 0, |at| read_number(run, at))?;
+    let rate = RateCodes {
+        code,
+        division,
+        feel,
+        hz,
+        x10,
+    };
+    Ok((rate, at))
 }
 
-fn read_span(run: &[u8], from: Place) -> SpanRead
-    ensures { Reads (span run.now) from result.value result.next }
+#[tactic(auto, unfolding(crate::specs::Records::span, fields::specs::Parser::after))]
+fn read_span(run: &[u8], at: usize) -> Result<(SpanCodes, usize), Fault>
+    ensures { parsed result ≡ span run.now at }
 {
-    let code = read_number(run, from);
-    let division = read_number_if(run, code.next, code.value == 1);
-    let seconds = read_f32_if(run, division.next, code.value == 2);
-    let next = seconds.next;
-    SpanRead {
-        value: SpanCodes {
-            code: code.value,
-            division: division.value,
-            seconds: seconds.value,
-        },
-        next,
-    }
+    let (code, at) = read_number(run, at)?;
+    let (division, at) = read_if(at, code == 1, 0, |at| read_number(run, at))?;
+    let (seconds, at) = read_if(at, code == 2, 0.0, |at| read_f32(run, at))?;
+    let span = SpanCodes {
+        code,
+        division,
+        seconds,
+    };
+    Ok((span, at))
 }
 
-fn read_smooth(run: &[u8], from: Place) -> SmoothRead
-    ensures { Reads (smooth run.now) from result.value result.next }
+#[tactic(auto, unfolding(crate::specs::Records::smooth, fields::specs::Parser::after))]
+fn read_smooth(run: &[u8], at: usize) -> Result<(SmoothCodes, usize), Fault>
+    ensures { parsed result ≡ smooth run.now at }
 {
-    let code = read_number(run, from);
-    let coefficient = read_f32_if(run, code.next, code.value == 1);
-    let next = coefficient.next;
-    SmoothRead {
-        value: SmoothCodes {
-            code: code.value,
-            coefficient: coefficient.value,
-        },
-        next,
-    }
+    let (code, at) = read_number(run, at)?;
+    let (coefficient, at) = read_if(at, code == 1, 0.0, |at| read_f32(run, at))?;
+    Ok((SmoothCodes { code, coefficient }, at))
 }
 
-pub fn read_settings(run: &[u8], from: Place) -> SettingsRead
-    ensures { Reads (settings run.now) from result.value result.next }
+#[tactic(auto, unfolding(crate::specs::Records::settings, fields::specs::Parser::after))]
+pub fn read_settings(run: &[u8], at: usize) -> Result<(SettingsCodes, usize), Fault>
+    ensures { parsed result ≡ settings run.now at }
 {
-    let kind = read_number(run, from);
-    let mode = read_number(run, kind.next);
-    let direction = read_number(run, mode.next);
-    let rate = read_rate(run, direction.next);
-    let song_lock = read_number(run, rate.next);
-    let swing = read_number(run, song_lock.next);
-    let fade_in = read_span(run, swing.next);
-    let delay = read_span(run, fade_in.next);
-    let smooth = read_smooth(run, delay.next);
-    let phase = read_f32(run, smooth.next);
-    let phase_snap = read_number(run, phase.next);
-    let grid_x = read_short(run, phase_snap.next);
-    let rate_codes = rate.value;
-    let fade_in_codes = fade_in.value;
-    let delay_codes = delay.value;
-    let smooth_codes = smooth.value;
-    let next = grid_x.next;
-    SettingsRead {
-        value: SettingsCodes {
-            kind: kind.value,
-            mode: mode.value,
-            direction: direction.value,
-            rate: rate_codes,
-            song_lock: song_lock.value,
-            swing: swing.value,
-            fade_in: fade_in_codes,
-            delay: delay_codes,
-            smooth: smooth_codes,
-            phase: phase.value,
-            phase_snap: phase_snap.value,
-            grid_x: grid_x.value,
-        },
-        next,
-    }
+    let (kind, at) = read_number(run, at)?;
+    let (mode, at) = read_number(run, at)?;
+    let (direction, at) = read_number(run, at)?;
+    let (rate, at) = read_rate(run, at)?;
+    let (song_lock, at) = read_number(run, at)?;
+    let (swing, at) = read_number(run, at)?;
+    let (fade_in, at) = read_span(run, at)?;
+    let (delay, at) = read_span(run, at)?;
+    let (smooth, at) = read_smooth(run, at)?;
+    let (phase, at) = read_f32(run, at)?;
+    let (phase_snap, at) = read_number(run, at)?;
+    let (grid_x, at) = read_short(run, at)?;
+    let settings = SettingsCodes {
+        kind,
+        mode,
+        direction,
+        rate,
+        song_lock,
+        swing,
+        fade_in,
+        delay,
+        smooth,
+        phase,
+        phase_snap,
+        grid_x,
+    };
+    Ok((settings, at))
 }
 
-pub fn read_scale(run: &[u8], from: Place) -> ScaleRead
-    ensures { Reads (scale run.now) from result.value result.next }
+#[tactic(auto, unfolding(crate::specs::Records::scale, fields::specs::Parser::after))]
+pub fn read_scale(run: &[u8], at: usize) -> Result<(ScaleCodes, usize), Fault>
+    ensures { parsed result ≡ scale run.now at }
 {
-    let code = read_number(run, from);
-    let percent = read_f32_if(run, code.next, code.value < 2);
-    let next = percent.next;
-    ScaleRead {
-        value: ScaleCodes {
-            code: code.value,
-            percent: percent.value,
-        },
-        next,
-    }
+    let (code, at) = read_number(run, at)?;
+    let (percent, at) = read_if(at, code < 2, 0.0, |at| read_f32(run, at))?;
+    Ok((ScaleCodes { code, percent }, at))
 }
 
-pub fn read_transport(run: &[u8], from: Place) -> TransportRead
-    ensures { Reads (transport run.now) from result.value result.next }
+#[tactic(auto, unfolding(crate::specs::Records::transport, fields::specs::Parser::after))]
+pub fn read_transport(run: &[u8], at: usize) -> Result<(TransportCodes, usize), Fault>
+    ensures { parsed result ≡ transport run.now at }
 {
-    let sample_rate = read_f64(run, from);
-    let tempo = read_f64(run, sample_rate.next);
-    let beats_per_bar = read_f64(run, tempo.next);
-    let playing = read_number(run, beats_per_bar.next);
-    let beats = read_f64(run, playing.next);
-    let seconds = read_f64(run, beats.next);
-    let swing = read_f32(run, seconds.next);
-    let scale = read_scale(run, swing.next);
-    let scale_codes = scale.value;
-    let next = scale.next;
-    TransportRead {
-        value: TransportCodes {
-            sample_rate: sample_rate.value,
-            tempo: tempo.value,
-            beats_per_bar: beats_per_bar.value,
-            playing: playing.value,
-            beats: beats.value,
-            seconds: seconds.value,
-            swing: swing.value,
-            scale: scale_codes,
-        },
-        next,
-    }
+    let (sample_rate, at) = read_f64(run, at)?;
+    let (tempo, at) = read_f64(run, at)?;
+    let (beats_per_bar, at) = read_f64(run, at)?;
+    let (playing, at) = read_number(run, at)?;
+    let (beats, at) = read_f64(run, at)?;
+    let (seconds, at) = read_f64(run, at)?;
+    let (swing, at) = read_f32(run, at)?;
+    let (scale, at) = read_scale(run, at)?;
+    let transport = TransportCodes {
+        sample_rate,
+        tempo,
+        beats_per_bar,
+        playing,
+        beats,
+        seconds,
+        swing,
+        scale,
+    };
+    Ok((transport, at))
 }
 
-pub fn read_restart(run: &[u8], from: Place) -> RestartRead
-    ensures { Reads (restart run.now) from result.value result.next }
+#[tactic(auto, unfolding(crate::specs::Records::restart, fields::specs::Parser::after))]
+pub fn read_restart(run: &[u8], at: usize) -> Result<(RestartCodes, usize), Fault>
+    ensures { parsed result ≡ restart run.now at }
 {
-    let code = read_number(run, from);
-    let frame = read_number_if(run, code.next, code.value == 1);
-    let next = frame.next;
-    RestartRead {
-        value: RestartCodes {
-            code: code.value,
-            frame: frame.value,
-        },
-        next,
-    }
+    let (code, at) = read_number(run, at)?;
+    let (frame, at) = read_if(at, code == 1, 0, |at| read_number(run, at))?;
+    Ok((RestartCodes { code, frame }, at))
 }

@@ -1,97 +1,45 @@
 -- Settings and a transport from their codes: known where every code is. Assumes nothing.
-use Rattle.std.specs.Prelude.{◌≡◌, Bool, true, false, cond, ◌&&◌, List, [], ◌∷◌, ◌==◌, nat_lt, slice_index_or}
+use Rattle.std.specs.Prelude.{◌≡◌, Bool, cond, ◌&&◌, List, [], ◌∷◌, ◌==◌, nat_lt, slice_get, Float, None, Option, Some}
+use Rattle.std.specs.Option.{is_some}
 use Rattle.settings.specs.Choices.{lfo_type_at, mode_at, direction_at, yes_no_at}
 use Rattle.settings.specs.Times.{rate_at, span_at, scale_at}
-use Rattle.settings.specs.declared.choices.LfoType.{LfoType}
-use Rattle.settings.specs.declared.choices.LfoTypeCode.{LfoTypeCode}
-use Rattle.settings.specs.declared.choices.LfoTypeCode.TheVariants as LfoTypeCode
-use Rattle.settings.specs.declared.choices.Mode.{Mode}
-use Rattle.settings.specs.declared.choices.ModeCode.{ModeCode}
-use Rattle.settings.specs.declared.choices.ModeCode.TheVariants as ModeCode
-use Rattle.settings.specs.declared.choices.Direction.{Direction}
-use Rattle.settings.specs.declared.choices.DirectionCode.{DirectionCode}
-use Rattle.settings.specs.declared.choices.DirectionCode.TheVariants as DirectionCode
-use Rattle.settings.specs.declared.choices.YesNo.{YesNo}
-use Rattle.settings.specs.declared.choices.YesNo.TheVariants as YesNo
-use Rattle.settings.specs.declared.times.Rate.{Rate}
 use Rattle.codes.specs.declared.RateCodes.{RateCodes}
-use Rattle.settings.specs.declared.times.RateCode.{RateCode}
-use Rattle.settings.specs.declared.times.RateCode.TheVariants as RateCode
-use Rattle.settings.specs.declared.times.Span.{Span}
 use Rattle.codes.specs.declared.SpanCodes.{SpanCodes}
-use Rattle.settings.specs.declared.times.SpanCode.{SpanCode}
-use Rattle.settings.specs.declared.times.SpanCode.TheVariants as SpanCode
-use Rattle.settings.specs.declared.times.Scale.{Scale}
 use Rattle.codes.specs.declared.ScaleCodes.{ScaleCodes}
-use Rattle.settings.specs.declared.times.ScaleCode.{ScaleCode}
-use Rattle.settings.specs.declared.times.ScaleCode.TheVariants as ScaleCode
-use Rattle.settings.specs.declared.record.Smooth.{Smooth}
-use Rattle.settings.specs.declared.record.Smooth.TheVariants as Smooth
 use Rattle.codes.specs.declared.SmoothCodes.{SmoothCodes}
-use Rattle.settings.specs.declared.record.SmoothCode.{SmoothCode}
-use Rattle.settings.specs.declared.record.SmoothCode.TheVariants as SmoothCode
 use Rattle.codes.specs.declared.SettingsCodes.{SettingsCodes}
-use Rattle.settings.specs.declared.record.SettingsCode.{SettingsCode}
-use Rattle.settings.specs.declared.record.SettingsCode.TheVariants as SettingsCode
 use Rattle.codes.specs.declared.TransportCodes.{TransportCodes}
-use Rattle.settings.specs.declared.record.TransportCode.{TransportCode}
-use Rattle.settings.specs.declared.record.TransportCode.TheVariants as TransportCode
+use Rattle.settings.specs.declared.record.Settings.{Settings}
+use Rattle.settings.specs.declared.record.Transport.{Transport}
 
 -- ---- the coefficient: 0 is absent, and 1 present
 
-abbrev pub smooths : SmoothCodes → List SmoothCode
-smooths c = SmoothCode.Known Smooth.Off ∷ SmoothCode.Known (Smooth.By c.coefficient) ∷ []
+abbrev pub smooths : SmoothCodes → List (Option Float)
+smooths c = None ∷ Some c.coefficient ∷ []
 
-unfoldable pub smooth_at : SmoothCodes → SmoothCode
-smooth_at c = slice_index_or (smooths c) c.code SmoothCode.Unknown
+unfoldable pub smooth_at : SmoothCodes → Option (Option Float)
+smooth_at c = slice_get (smooths c) c.code
 
--- ---- the rest, `f`, of a known choice; and of one that is not known `u`
-
-module _ {A : Type 0} (u : A) where
-  abbrev pub with_kind : LfoTypeCode → (LfoType → A) → A
-  with_kind (LfoTypeCode.Known x) f = f x
-  with_kind LfoTypeCode.Unknown f = u
-
-  abbrev pub with_mode : ModeCode → (Mode → A) → A
-  with_mode (ModeCode.Known x) f = f x
-  with_mode ModeCode.Unknown f = u
-
-  abbrev pub with_direction : DirectionCode → (Direction → A) → A
-  with_direction (DirectionCode.Known x) f = f x
-  with_direction DirectionCode.Unknown f = u
-
-  abbrev pub with_yes_no : YesNo → (Bool → A) → A
-  with_yes_no (YesNo.Known x) f = f x
-  with_yes_no YesNo.Unknown f = u
-
-  abbrev pub with_rate : RateCode → (Rate → A) → A
-  with_rate (RateCode.Known x) f = f x
-  with_rate RateCode.Unknown f = u
-
-  abbrev pub with_span : SpanCode → (Span → A) → A
-  with_span (SpanCode.Known x) f = f x
-  with_span SpanCode.Unknown f = u
-
-  abbrev pub with_scale : ScaleCode → (Scale → A) → A
-  with_scale (ScaleCode.Known x) f = f x
-  with_scale ScaleCode.Unknown f = u
-
-  abbrev pub with_smooth : SmoothCode → (Smooth → A) → A
-  with_smooth (SmoothCode.Known x) f = f x
-  with_smooth SmoothCode.Unknown f = u
+-- the rest, `f`, of a code that is known; and of one that is not `u`
+abbrev pub with_known : {A B : Type 0} → A → Option B → (B → A) → A
+with_known u (Some x) f = f x
+with_known u None f = u
 
 -- ---- whole records
 
-abbrev unknown : SettingsCode
-unknown = SettingsCode.Unknown
-
--- the spans and the coefficient, with the rest known
-unfoldable pub with_spans : LfoType → Mode → Direction → Rate → Bool → Bool → Bool → SettingsCodes → SettingsCode
-with_spans kind mode direction rate lock swing snap c =
-    with_span unknown (span_at c.fade_in) λ fade.
-    with_span unknown (span_at c.delay) λ delay.
-    with_smooth unknown (smooth_at c.smooth) λ smooth.
-    SettingsCode.Known
+unfoldable pub settings_at : SettingsCodes → Option Settings
+settings_at c =
+    with_known None (lfo_type_at c.kind) λ kind.
+    with_known None (mode_at c.mode) λ mode.
+    with_known None (direction_at c.direction) λ direction.
+    with_known None (rate_at c.rate) λ rate.
+    with_known None (yes_no_at c.song_lock) λ lock.
+    with_known None (yes_no_at c.swing) λ swing.
+    with_known None (yes_no_at c.phase_snap) λ snap.
+    with_known None (span_at c.fade_in) λ fade.
+    with_known None (span_at c.delay) λ delay.
+    with_known None (smooth_at c.smooth) λ smooth.
+    Some
     (record {
       kind = kind;
       mode = mode;
@@ -107,25 +55,11 @@ with_spans kind mode direction rate lock swing snap c =
       grid_x = c.grid_x;
     })
 
--- each yes or no, with the choices known
-unfoldable pub with_switches : LfoType → Mode → Direction → Rate → SettingsCodes → SettingsCode
-with_switches kind mode direction rate c =
-    with_yes_no unknown (yes_no_at c.song_lock) λ lock.
-    with_yes_no unknown (yes_no_at c.swing) λ swing.
-    with_yes_no unknown (yes_no_at c.phase_snap) λ snap. with_spans kind mode direction rate lock swing snap c
-
-unfoldable pub settings_at : SettingsCodes → SettingsCode
-settings_at c =
-    with_kind unknown (lfo_type_at c.kind) λ kind.
-    with_mode unknown (mode_at c.mode) λ mode.
-    with_direction unknown (direction_at c.direction) λ direction.
-    with_rate unknown (rate_at c.rate) λ rate. with_switches kind mode direction rate c
-
-unfoldable pub transport_at : TransportCodes → TransportCode
+unfoldable pub transport_at : TransportCodes → Option Transport
 transport_at c =
-    with_yes_no TransportCode.Unknown (yes_no_at c.playing) λ playing.
-    with_scale TransportCode.Unknown (scale_at c.scale) λ scale.
-    TransportCode.Known
+    with_known None (yes_no_at c.playing) λ playing.
+    with_known None (scale_at c.scale) λ scale.
+    Some
     (record {
       sample_rate = c.sample_rate;
       tempo = c.tempo;
@@ -167,18 +101,9 @@ settings_known c =
 unfoldable pub transport_known : TransportCodes → Bool
 transport_known c = nat_lt c.playing 2 && scale_known c.scale
 
--- whether there is an answer
-abbrev pub is_settings : SettingsCode → Bool
-is_settings (SettingsCode.Known s) = true
-is_settings SettingsCode.Unknown = false
-
-abbrev pub is_transport : TransportCode → Bool
-is_transport (TransportCode.Known t) = true
-is_transport TransportCode.Unknown = false
-
 -- that the test says it, proved in proofs/Known.antt
 abbrev pub SettingsKnownRule : Type 0
-SettingsKnownRule = (c : SettingsCodes) → is_settings (settings_at c) ≡ settings_known c
+SettingsKnownRule = (c : SettingsCodes) → is_some (settings_at c) ≡ settings_known c
 
 abbrev pub TransportKnownRule : Type 0
-TransportKnownRule = (c : TransportCodes) → is_transport (transport_at c) ≡ transport_known c
+TransportKnownRule = (c : TransportCodes) → is_some (transport_at c) ≡ transport_known c

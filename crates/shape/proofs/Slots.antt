@@ -5,7 +5,8 @@ use mathlib.Core.List.{List, ◌++◌}
 use Prim.Native.Nat.{ℕ, zero, suc, ◌-◌, ◌≤◌, ◌<◌}
 use native.Mathlib.Nat.{le_refl}
 use native.Mathlib.Omega.{arith}
-use lib.ListN.{length, get_or, replicate, get_or-append}
+use lib.ListN.{length, get_or, replicate, take, get_or-append}
+use Rattle.std.proofs.lemmas.List.{get_or-take, length-take-le}
 use lib.Ieee.{lt}
 use Rattle.listlaws.specs.Tables.{padded}
 use Rattle.listlaws.proofs.LastWhere.{last_le, last_same}
@@ -45,3 +46,13 @@ sort_more points n =
     let p = clamped_point (get_or points n no_point) in
     let l = sorted_points points n in
     subst (λ (k : ℕ). inserted_at (padded 64 blank l) k p ≡ padded 64 blank (insert_point l p)) (length_sorted points n) (insert_padded l p)
+
+-- the first n points are sorted alike whether others follow them or not
+first_sorted : (points : List Point) (m n : ℕ) → n ≤ m → sorted_points (take m points) n ≡ sorted_points points n
+unfolding sorted_points
+first_sorted points m zero h = refl
+first_sorted points m (suc n) h = rw (first_sorted points m n (omega arith), get_or-take m points n no_point h)
+
+pub sort_first : (points : List Point) (n : ℕ) → n ≤ length points → sorted_array (take n points) (length (take n points)) ≡ sorted_array points n
+unfolding sorted_array
+sort_first points n h = rw (length-take-le n points h, first_sorted points n n (le_refl n))

@@ -1,6 +1,6 @@
 // Points of a drawn shape: clamped, and sorted by x.
-ghost use Rattle.std.specs.Prelude.{◌≡◌, ◌≤◌, ◌<◌, replicate};
-ghost use Rattle.shape.specs.Points.{new_point, bent_point, stepped_point, blank, clamped_point, inserted_at, sorted_array};
+ghost use Rattle.std.specs.Prelude.{◌≡◌, ◌≤◌, ◌<◌, length};
+ghost use Rattle.shape.specs.Points.{new_point, bent_point, stepped_point, clamped_point, inserted_at, sorted_array};
 
 use points::{MAX_POINTS, PointMod};
 
@@ -17,8 +17,8 @@ pub struct Point {
     // The segment from this point holds its value and jumps at the next point.
     pub step: bool,
     // Modulation of `x` and of `y`.
-    pub x_mod: PointMod,
-    pub y_mod: PointMod,
+    pub x_mod: Option<PointMod>,
+    pub y_mod: Option<PointMod>,
 }
 
 impl Point {
@@ -31,8 +31,8 @@ impl Point {
             y,
             curve: 0.0,
             step: false,
-            x_mod: PointMod::None,
-            y_mod: PointMod::None,
+            x_mod: None,
+            y_mod: None,
         }
     }
 
@@ -56,53 +56,38 @@ impl Point {
     fn clamped(mut self) -> Self
         ensures { result ≡ clamped_point self }
     {
-        self.x = extrema::clamp_f32(self.x, 0.0, 1.0);
-        self.y = extrema::clamp_f32(self.y, 0.0, 1.0);
-        self.curve = extrema::clamp_f32(self.curve, -1.0, 1.0);
+        self.x = extrema::clamp(self.x, 0.0, 1.0);
+        self.y = extrema::clamp(self.y, 0.0, 1.0);
+        self.curve = extrema::clamp(self.curve, -1.0, 1.0);
         self
     }
 }
 
-// `p` put among the first `n` points: after those at or before it. Each later one moves up a place.
-fn insert(points: [Point; MAX_POINTS], n: usize, p: Point) -> [Point; MAX_POINTS]
+// Puts `p` among the first `n` points: after those at or before it. Each later one moves up a place.
+fn insert(points: &mut [Point; MAX_POINTS], n: usize, p: Point)
     requires { n < 64 }
-    ensures { result ≡ inserted_at points n p }
+    ensures { points.new ≡ inserted_at points.old n p }
 {
-    let mut out = points;
-    let mut j = n;
-    while j > 0 {
-        let before = out[j - 1];
+    for j in (0..n).rev() {
+        let before = points[j];
         if before.x > p.x {
-            out[j] = before;
-            j -= 1;
+            points[j + 1] = before;
         } else {
-            break;
+            points[j + 1] = p;
+            return;
         }
     }
-    out[j] = p;
-    out
+    points[0] = p;
 }
 
-// An array of points at 0, 0.
-pub fn blank_points() -> [Point; MAX_POINTS]
-    ensures { result ≡ replicate 64 blank }
+// The points clamped and sorted by x; equal x keep their order. Blank points follow. The library's stable sort needs a heap.
+pub fn sort(points: &[Point]) -> [Point; MAX_POINTS]
+    requires { length points.now ≤ 64 }
+    ensures { result ≡ sorted_array points.now (length points.now) }
 {
-    let blank = Point::new(0.0, 0.0);
-    [blank; MAX_POINTS]
-}
-
-// The first `len` points, clamped and sorted by x; equal x keep their order. Blank points follow.
-pub fn sort(points: [Point; MAX_POINTS], len: usize) -> [Point; MAX_POINTS]
-    requires { len ≤ 64 }
-    ensures { result ≡ sorted_array points len }
-{
-    let mut sorted = blank_points();
-    let mut i = 0;
-    while i < len {
-        let p = points[i];
-        let next = insert(sorted, i, p.clamped());
-        sorted = next;
-        i += 1;
+    let mut sorted = [Point::new(0.0, 0.0); MAX_POINTS];
+    for (n, p) in points.iter().enumerate() {
+        insert(&mut sorted, n, p.clamped());
     }
     sorted
 }

@@ -6,7 +6,6 @@
 use codes::{
     RateCodes, RestartCodes, ScaleCodes, SettingsCodes, SmoothCodes, SpanCodes, TransportCodes,
 };
-use number::Writing;
 use std::io;
 
 const FRAMES: usize = 4;
@@ -14,27 +13,11 @@ const FRAMES: usize = 4;
 // More than any text here takes.
 const ROOM: usize = 4096;
 
-// The first `n` bytes.
-fn show<P: Print>(rt: &P, out: &[u8], n: usize) -> io::Result<()> {
-    if n <= out.len() {
-        rt.write_all(&out[..n])?;
-    }
-    Ok(())
-}
-
-// The place after a text; a text that has no room is not there.
-fn end_of(w: Writing) -> usize {
-    match w {
-        Writing::Next(next) => next,
-        Writing::NoRoom => 0,
-    }
-}
-
 fn show_sheet<P: Print>(rt: &P, x: &[f32; FRAMES], y: &[f32; FRAMES]) -> io::Result<()> {
     let mut out = [0; ROOM];
-    let lines = end_of(text::write_header(&mut out, 0));
-    let end = end_of(text::write_lines(&mut out, lines, 0, x, y, FRAMES));
-    show(rt, &out, end)
+    let lines = text::write_header(&mut out, 0).unwrap_or(0);
+    let end = text::write_lines(&mut out, lines, 0, x, y).unwrap_or(0);
+    rt.write_all(&out[..end.min(ROOM)])
 }
 
 // No delay and no fade.
@@ -47,29 +30,25 @@ fn off() -> SpanCodes {
 }
 
 fn settings() -> SettingsCodes {
-    let rate = RateCodes {
-        code: 1,
-        division: 0,
-        feel: 0,
-        hz: 250.0,
-        x10: 1,
-    };
-    let fade_in = off();
-    let delay = off();
-    let smooth = SmoothCodes {
-        code: 0,
-        coefficient: 0.0,
-    };
     SettingsCodes {
         kind: 0,
         mode: 1,
         direction: 0,
-        rate,
+        rate: RateCodes {
+            code: 1,
+            division: 0,
+            feel: 0,
+            hz: 250.0,
+            x10: 1,
+        },
         song_lock: 0,
         swing: 0,
-        fade_in,
-        delay,
-        smooth,
+        fade_in: off(),
+        delay: off(),
+        smooth: SmoothCodes {
+            code: 0,
+            coefficient: 0.0,
+        },
         phase: 0.0,
         phase_snap: 0,
         grid_x: 8,
@@ -77,10 +56,6 @@ fn settings() -> SettingsCodes {
 }
 
 fn transport() -> TransportCodes {
-    let scale = ScaleCodes {
-        code: 0,
-        percent: 100.0,
-    };
     TransportCodes {
         sample_rate: 1000.0,
         tempo: 120.0,
@@ -89,7 +64,10 @@ fn transport() -> TransportCodes {
         beats: 0.0,
         seconds: 0.0,
         swing: 0.0,
-        scale,
+        scale: ScaleCodes {
+            code: 0,
+            percent: 100.0,
+        },
     }
 }
 
@@ -99,24 +77,28 @@ fn refused<P: Print + Eprint>(rt: &P, answer: u8) -> io::Result<bool> {
         return Ok(false);
     }
     let mut out = [0; ROOM];
-    let end = end_of(text::write_number(&mut out, 0, answer as u64));
-    show(rt, &out, end)?;
+    let end = text::write_number(&mut out, 0, answer as u64).unwrap_or(0);
+    rt.write_all(&out[..end.min(ROOM)])?;
     eprintln!(rt; "sheet: refused; docs/RULES.md has the question of that number")?;
     Ok(true)
 }
 
 fn main(rt: HostRuntime) -> io::Result<()> {
-    let given = settings();
-    let made = player::make(given, 0);
+    let made = player::make(settings(), 0);
     if refused(&rt, made.answer)? {
         return Ok(());
     }
-    let p = made.player;
-    let t = transport();
     let restart = RestartCodes { code: 0, frame: 0 };
-    let mut x = [0.0f32; FRAMES];
-    let mut y = [0.0f32; FRAMES];
-    let played = player::play(p, t, FRAMES as u64, restart, &mut x, &mut y);
+    let mut x = [0.0; FRAMES];
+    let mut y = [0.0; FRAMES];
+    let played = player::play(
+        made.player,
+        transport(),
+        FRAMES as u64,
+        restart,
+        &mut x,
+        &mut y,
+    );
     if refused(&rt, played.answer)? {
         return Ok(());
     }

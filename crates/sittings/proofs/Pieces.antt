@@ -1,7 +1,7 @@
 -- A turn is right whatever comes behind the bytes at hand, and so what is printed is the sheet, however the input is cut into pieces. Assumes nothing.
 --     turns_right, wants_few, ends_right, prints_sheet     the promises
 --     goes_on, goes_none                                   turns one after the other
-use Prim.Native.Nat.{ℕ, suc, ◌+◌, ◌≤◌, ◌<◌}
+use Prim.Native.Nat.{ℕ, suc, ◌≤◌, ◌<◌}
 use mathlib.Core.Path.{◌≡◌, refl, sym, ap, ◌∙◌, subst}
 use mathlib.Core.Bool.{Bool, true, false, cond}
 use mathlib.Core.List.{List, [], ◌∷◌, ◌++◌, append-nil, append_assoc}

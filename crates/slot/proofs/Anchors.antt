@@ -1,5 +1,5 @@
 -- A block of a voice keeps its anchor within the frames played. Assumes nothing.
-use Rattle.std.proofs.Common.{ℕ, zero, suc, ◌+◌, ◌-◌, ◌^◌, ◌≤◌, min, arith, lit≤}
+use Rattle.std.proofs.Common.{ℕ, zero, suc, ◌+◌, ◌-◌, ◌^◌, ◌≤◌, min, arith, lit≤, None, Option, Some}
 use native.Mathlib.Nat.{min-le_right}
 use Rattle.clock.specs.declared.block.Block.{Block}
 use Rattle.clock.specs.Anchor.{next_anchor}
@@ -12,8 +12,6 @@ use Rattle.voice.specs.declared.Voice.{Voice}
 use Rattle.voice.specs.Curve.{Curve}
 use Rattle.voice.specs.Frame.{frame_of}
 use Rattle.voice.specs.Voice.{begun_anchor, begun_voice, restarted_anchor, triggered_voice}
-use Rattle.bank.specs.declared.parts.Pending.{Pending}
-use Rattle.bank.specs.declared.parts.Pending.TheVariants.{None, At}
 use Rattle.bank.specs.Render.{voice_after}
 use Rattle.bank.specs.Parts.{begun, restarted, parts_voice}
 
@@ -61,12 +59,12 @@ module _ (s : Settings) (q : Curve) (b : Block) where
         begun_voice_in k (triggered_voice s b (after 0 k from)) (omega arith) (omega arith)
         (triggered_in (f + k) (after 0 k from) (anchor_later (after 0 k from).anchor (f + (0 + k)) (f + k) (omega arith) first))
 
-    pub parts_in : (frames : ℕ) (v : Voice) (at : Pending) → frames ≤ 4096 → f + frames ≤ 2 ^ 40 → AnchorIn f v.anchor → AnchorIn (f + frames) (parts_voice s q b frames v at).anchor
+    pub parts_in : (frames : ℕ) (v : Voice) (at : Option ℕ) → frames ≤ 4096 → f + frames ≤ 2 ^ 40 → AnchorIn f v.anchor → AnchorIn (f + frames) (parts_voice s q b frames v at).anchor
     unfolding parts_voice
     parts_in frames v None K F i =
         let from = begun s q b frames v in
         anchor_later (after 0 frames from).anchor (f + (0 + frames)) (f + frames) (omega arith) (after_in 0 frames from (begun_in_block frames v i (omega arith)))
-    parts_in frames v (At at) K F i =
+    parts_in frames v (Some at) K F i =
         let k = min at frames in
         let within : min at frames ≤ frames = min-le_right at frames in
         let again = restarted s q b frames v k in

@@ -1,9 +1,7 @@
 -- A block of a slot and of a voice that plays it: what it asks of both, and what holds of both after it. Assumes nothing.
-use Rattle.std.proofs.Common.{◌≡◌, ℕ, ◌+◌, ◌^◌, ◌<◌, ◌≤◌, List, length, ap, arith}
+use Rattle.std.proofs.Common.{◌≡◌, ℕ, ◌+◌, ◌^◌, ◌<◌, ◌≤◌, List, length, ap, arith, None, Option, Some}
 use lib.Ieee.{Float}
 use Rattle.shape.specs.declared.Shape.{Shape}
-use Rattle.shape.specs.declared.Loopback.{Loopback}
-use Rattle.shape.specs.declared.Loopback.TheVariants as Loopback
 use Rattle.path.specs.declared.Path.{Path}
 use Rattle.clock.specs.declared.ready.Prepared.{Prepared}
 use Rattle.clock.specs.Block.{free_count}
@@ -17,7 +15,6 @@ use Rattle.reach.proofs.Frame as frame
 use Rattle.voice.specs.declared.Voice.{Voice}
 use Rattle.voice.specs.declared.generator.Kept.{Kept}
 use Rattle.voice.specs.Curve.{Curve, KeptFor}
-use Rattle.bank.specs.declared.parts.Pending.{Pending}
 use Rattle.bank.specs.Render.{Stretch}
 use Rattle.bank.specs.Parts.{parts_voice}
 use Rattle.slot.specs.declared.moved.Lists.{Lists}
@@ -27,9 +24,9 @@ use Rattle.slot.proofs.Anchors.{parts_in}
 use Rattle.slot.proofs.Curves.{searchable}
 
 -- a loopback point among fewer points is one among more
-pub loopback_more : (l : Loopback) (m n : ℕ) → m ≤ n → LoopbackIn l m → LoopbackIn l n
-loopback_more Loopback.None m n h i = tt
-loopback_more (Loopback.At k) m n h i = omega arith
+pub loopback_more : (l : Option ℕ) (m n : ℕ) → m ≤ n → LoopbackIn l m → LoopbackIn l n
+loopback_more None m n h i = tt
+loopback_more (Some k) m n h i = omega arith
 
 -- the curve of lists that belong to a type is the type's
 pub curve_is : (kind : LfoType) (shape : Shape) (path : Path) (buses : List Float) (l : Lists) → l ≡ lists_of kind shape path buses
@@ -84,5 +81,5 @@ module _ (lfo : Lfo) (t : Transport) (f frames : ℕ)
           clock_small = clock_small;
         }
 
-    pub voice_in : (at : Pending) → AnchorIn (f + frames) (parts_voice s q ready.block frames v at).anchor
+    pub voice_in : (at : Option ℕ) → AnchorIn (f + frames) (parts_voice s q ready.block frames v at).anchor
     voice_in at = parts_in s q ready.block block_in f frames v at short within a

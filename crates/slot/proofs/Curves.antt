@@ -1,5 +1,5 @@
 -- The curves of a page can be searched, and its loopback point lies from 0 to 1. Of the curves: the default ones, and every accepted path. Assumes nothing.
-use Rattle.std.proofs.Common.{ℕ, zero, suc, ◌<◌, min, Bool, T, List, get_or, sym, subst, arith, lit≤}
+use Rattle.std.proofs.Common.{ℕ, zero, suc, ◌<◌, min, Bool, T, List, get_or, sym, subst, arith, lit≤, None, Option, Some}
 use native.Mathlib.Nat.{min-le_right}
 use lib.Ieee.{Float, nan, binary32, fits, of_bits}
 use lib.Ieee.Fits.{add-fits, fits_widens}
@@ -10,8 +10,6 @@ use Rattle.points.specs.Modulation.{FiniteBuses}
 use Rattle.points.proofs.Offsets.{moved_number}
 use Rattle.shape_segments.specs.Segments.{empty_segment, contains_of}
 use Rattle.shape_segments.proofs.KeptSegment as shapes
-use Rattle.shape.specs.declared.Loopback.{Loopback}
-use Rattle.shape.specs.declared.Loopback.TheVariants as Loopback
 use Rattle.shape.specs.declared.sorting.Point.{Point}
 use Rattle.shape.specs.Shapes.{default_shape, floor_at, modulated_of, NumbersX}
 use Rattle.shape.proofs.Modulation.{modulated_ascends, modulated_x}
@@ -21,7 +19,6 @@ use Rattle.path.proofs.PathLegs.{legs_in}
 use Rattle.path_segments.specs.Segments.{empty_path, path_contains}
 use Rattle.path_segments.proofs.AcceptedPath.{accepted_ascends}
 use Rattle.path_segments.proofs.KeptPath as paths
-use Rattle.position.specs.declared.place.LoopPoint.TheVariants as LoopPoint
 use Rattle.reach.specs.Bounds.{LoopIn}
 use Rattle.settings.specs.declared.choices.LfoType.{LfoType}
 use Rattle.settings.specs.declared.choices.LfoType.TheVariants as LfoType
@@ -40,7 +37,7 @@ unfolding floor_at
 floor_fits points buses zero = ends_fit.0
 floor_fits points buses (suc i) = clamp_fits binary32 _ _ _ (add-fits binary32 _ _) (floor_fits points buses i) ends_fit.1
 
-point_in : (points : List Point) (buses : List Float) (n : ℕ) → NumbersX points buses n → (i : ℕ) → i < n → LoopIn (LoopPoint.At (get_or (modulated_of points n buses).xs i nan))
+point_in : (points : List Point) (buses : List Float) (n : ℕ) → NumbersX points buses n → (i : ℕ) → i < n → LoopIn (Some (get_or (modulated_of points n buses).xs i nan))
 unfolding modulated_of of_bits
 point_in points buses n number i h = (
   fits_widens _ (subst (λ (x : Float). T (fits binary32 x)) (sym (get_or_padded (λ k. floor_at points buses (suc k)) 64 f32_0 n i nan h)) (floor_fits points buses (suc i))),
@@ -66,9 +63,9 @@ module _ {frames : ℕ} (lfo : Lfo) (i : LfoIn frames lfo) where
   unfolding moved_curve lists_of shape_lists loop_of
   loop_in LfoType.Drawn = go lfo.shape.loopback i.shape_in.loopback_is_in
     where
-      go : (l : Loopback) → LoopbackIn l lfo.shape.len → LoopIn (loop_at l (modulated_of lfo.shape.points lfo.shape.len lfo.buses).xs)
-      go Loopback.None h = tt
-      go (Loopback.At k) h = point_in lfo.shape.points lfo.buses lfo.shape.len numbers k h
+      go : (l : Option ℕ) → LoopbackIn l lfo.shape.len → LoopIn (loop_at l (modulated_of lfo.shape.points lfo.shape.len lfo.buses).xs)
+      go None h = tt
+      go (Some k) h = point_in lfo.shape.points lfo.buses lfo.shape.len numbers k h
   loop_in LfoType.Path = tt
   loop_in LfoType.Lorenz = tt
   loop_in LfoType.Rossler = tt

@@ -1,14 +1,10 @@
 -- The points as frames read them, moved by the buses, and the curve that they make. Assumes nothing.
-use Rattle.std.specs.Prelude.{ℕ, ◌<◌, false, cond, List, replicate, slice_index_or, Float}
+use Rattle.std.specs.Prelude.{ℕ, ◌<◌, false, cond, List, replicate, slice_index_or, Float, None, Option, Some}
 use Rattle.std.specs.Float.{nan}
-use Rattle.shape.specs.declared.Loopback.{Loopback}
-use Rattle.shape.specs.declared.Loopback.TheVariants as Loopback
 use Rattle.shape.specs.declared.Shape.{Shape}
 use Rattle.shape.specs.Shapes.{modulated_of, curves_of}
 use Rattle.path.specs.declared.Path.{Path}
 use Rattle.path.specs.Paths.{modulated_path, bends_of}
-use Rattle.position.specs.declared.place.LoopPoint.{LoopPoint}
-use Rattle.position.specs.declared.place.LoopPoint.TheVariants as LoopPoint
 use Rattle.settings.specs.declared.choices.LfoType.{LfoType}
 use Rattle.settings.specs.declared.choices.LfoType.TheVariants as LfoType
 use Rattle.voice.specs.Source.{is_path}
@@ -36,22 +32,22 @@ abbrev pub points_of : LfoType → ℕ → ℕ → ℕ
 points_of kind shape path = cond (is_path kind) path shape
 
 -- the loopback point, if any, is one of n points
-abbrev pub LoopbackIn : Loopback → ℕ → Type 0
-LoopbackIn Loopback.None n = Unit
-LoopbackIn (Loopback.At i) n = i < n
+abbrev pub LoopbackIn : Option ℕ → ℕ → Type 0
+LoopbackIn None n = Unit
+LoopbackIn (Some i) n = i < n
 
 -- where a loopback point is, as moved
-abbrev pub loop_at : Loopback → List Float → LoopPoint
-loop_at Loopback.None xs = LoopPoint.None
-loop_at (Loopback.At i) xs = LoopPoint.At (slice_index_or xs i nan)
+abbrev pub loop_at : Option ℕ → List Float → Option Float
+loop_at None xs = None
+loop_at (Some i) xs = Some (slice_index_or xs i nan)
 
 -- only a drawn shape loops back
-unfoldable pub loop_of : LfoType → Loopback → List Float → LoopPoint
+unfoldable pub loop_of : LfoType → Option ℕ → List Float → Option Float
 loop_of LfoType.Drawn loopback xs = loop_at loopback xs
-loop_of LfoType.Path loopback xs = LoopPoint.None
-loop_of LfoType.Lorenz loopback xs = LoopPoint.None
-loop_of LfoType.Rossler loopback xs = LoopPoint.None
-loop_of LfoType.SampleAndHold loopback xs = LoopPoint.None
+loop_of LfoType.Path loopback xs = None
+loop_of LfoType.Lorenz loopback xs = None
+loop_of LfoType.Rossler loopback xs = None
+loop_of LfoType.SampleAndHold loopback xs = None
 
 -- the curve that frames of a type read, of these lists
 abbrev pub curve_with : LfoType → Shape → Path → Lists → Curve

@@ -4,9 +4,8 @@ ghost use Rattle.slot.specs.Moved.{shape_lists, path_lists, lists_of, points_of,
 
 use path::Path;
 use points::{MAX_POINTS, POINT_BUSES};
-use position::LoopPoint;
 use settings::LfoType;
-use shape::{Loopback, Shape};
+use shape::Shape;
 
 // A shape's points with the strengths and the steps of its segments, or a path's with their bends.
 #[derive(Clone, Copy)]
@@ -17,7 +16,9 @@ pub struct Lists {
     pub steps: [bool; MAX_POINTS],
 }
 
+// A literal here takes each array from a variable: from a field or a call it has no generated proof.
 impl Lists {
+    #[tactic(auto, unfolding(crate::specs::Moved::shape_lists))]
     fn of_shape(shape: Shape, buses: &[f32; POINT_BUSES]) -> Self
         requires { shape.len ≤ 64 }
         ensures { result ≡ shape_lists shape buses.now }
@@ -31,6 +32,7 @@ impl Lists {
         Lists { xs, ys, es, steps }
     }
 
+    #[tactic(auto, unfolding(crate::specs::Moved::path_lists))]
     fn of_path(path: Path, buses: &[f32; POINT_BUSES]) -> Self
         requires { path.len ≤ 64 }
         ensures { result ≡ path_lists path buses.now }
@@ -44,6 +46,7 @@ impl Lists {
     }
 
     // Of a type: a path's for Path, and for every other the shape's.
+    #[tactic(auto, unfolding(crate::specs::Moved::lists_of))]
     pub fn of(kind: LfoType, shape: Shape, path: Path, buses: &[f32; POINT_BUSES]) -> Self
         requires { (shape.len ≤ 64) × (path.len ≤ 64) }
         ensures { result ≡ lists_of kind shape path buses.now }
@@ -66,18 +69,19 @@ pub fn point_count(kind: LfoType, shape: usize, path: usize) -> usize
 }
 
 // Where a drawn shape's loopback point is, as moved; another type has none.
-pub fn loop_point(kind: LfoType, loopback: Loopback, xs: &[f32; MAX_POINTS]) -> LoopPoint
+#[tactic(auto, unfolding(crate::specs::Moved::loop_of))]
+pub fn loop_point(kind: LfoType, loopback: Option<usize>, xs: &[f32; MAX_POINTS]) -> Option<f64>
     requires { LoopbackIn loopback 64 }
     ensures { result ≡ loop_of kind loopback xs.now }
 {
     match kind {
-        LfoType::Drawn => match loopback {
-            Loopback::None => LoopPoint::None,
-            Loopback::At(i) => LoopPoint::At(std::num::f32_to_f64_with_nan(xs[i])),
-        },
-        LfoType::Path => LoopPoint::None,
-        LfoType::Lorenz => LoopPoint::None,
-        LfoType::Rossler => LoopPoint::None,
-        LfoType::SampleAndHold => LoopPoint::None,
+        LfoType::Drawn => {
+            let i = loopback?;
+            Some(std::num::f32_to_f64_with_nan(xs[i]))
+        }
+        LfoType::Path => None,
+        LfoType::Lorenz => None,
+        LfoType::Rossler => None,
+        LfoType::SampleAndHold => None,
     }
 }

@@ -24,14 +24,12 @@ impl Page {
         requires { (shape.len ≤ 64) × (path.len ≤ 64) }
         ensures { result ≡ page_of settings shape path buses }
     {
-        let kind = settings.kind;
-        let lists = Lists::of(kind, shape, path, &buses);
         Page {
             settings,
             shape,
             path,
             buses,
-            lists,
+            lists: Lists::of(settings.kind, shape, path, &buses),
         }
     }
 
@@ -39,9 +37,11 @@ impl Page {
     pub fn new(settings: Settings) -> Self
         ensures { result ≡ new_page settings }
     {
-        let stored = settings.clamped();
-        let shape = Shape::default();
-        let path = Path::default();
-        Page::of(stored, shape, path, [0.0f32; POINT_BUSES])
+        Page::of(
+            settings.clamped(),
+            Shape::default(),
+            Path::default(),
+            [0.0f32; POINT_BUSES],
+        )
     }
 }

@@ -3,38 +3,28 @@
 // A stored one is its length and the length of the output that it is given, two bytes each, lower first, its kind, and then its bytes.
 #![tactic(auto)]
 
-ghost use Rattle.std.specs.Prelude.{◌≤◌, IfOk};
+ghost use Rattle.std.specs.Prelude.{◌≤◌, IfOk, IfSome, OnOk, take};
+ghost use Rattle.std.specs.Io.KnownBytes.{Appends};
 ghost use Rattle.std.specs.Io.{ReadsAtMost};
+ghost use Rattle.stored.specs.Shown.{shown};
 
 use std::io;
 use std::io::{Read, Write};
 
-// What stands before the bytes, where there is a stored one.
-#[derive(Drop)]
+// What stands before the bytes.
+#[derive(Clone, Copy)]
 pub struct Head {
-    pub there: bool,
     pub len: usize,
     pub room: usize,
     pub kind: u8,
-}
-
-// In a function of its own a cast asks for no proof that the number fits.
-fn wide(byte: u8) -> u64 {
-    byte as u64
-}
-
-// The number that two bytes hold.
-fn pair(low: u8, high: u8) -> usize
-    ensures { result ≤ 65535 }
-{
-    low as usize + 256 * (high as usize)
 }
 
 // Reads until `buf` is full or the input ends, and answers how many bytes it put at its start.
 pub fn read_full<R: Read>(input: &mut R, buf: &mut [u8]) -> io::Result<usize>
     ensures { ReadsAtMost result buf.new }
 {
-    let mut done: usize = 0;
+    let mut done = 0;
+    // A `while`: how far a read goes is known only after it, and `read_exact` refuses an input that ends early.
     while done < buf.len() {
         let n = input.read(&mut buf[done..])?;
         if n == 0 {
@@ -45,33 +35,28 @@ pub fn read_full<R: Read>(input: &mut R, buf: &mut [u8]) -> io::Result<usize>
     Ok(done)
 }
 
-// Reads the head of the next stored one.
-pub fn read_head<R: Read>(input: &mut R) -> io::Result<Head>
-    ensures { IfOk result (λ head. (head.len ≤ 65535) × (head.room ≤ 65535)) }
+// Reads the head of the next stored one, where there is one.
+pub fn read_head<R: Read>(input: &mut R) -> io::Result<Option<Head>>
+    ensures { IfOk result (λ found. IfSome found (λ head. (head.len ≤ 65535) × (head.room ≤ 65535))) }
 {
     let mut head = [0u8; 5];
-    let there = read_full(input, &mut head)? == 5;
-    let len = pair(head[0], head[1]);
-    let room = pair(head[2], head[3]);
-    Ok(Head {
-        there,
-        len,
-        room,
-        kind: head[4],
-    })
-}
-
-fn show_byte<W: Write>(to: &mut W, bytes: &[u8], i: usize) -> io::Result<()> {
-    if i < bytes.len() {
-        write!(to, "{:02x}", wide(bytes[i]))?;
+    if read_full(input, &mut head)? < 5 {
+        return Ok(None);
     }
-    Ok(())
+    let [len_low, len_high, room_low, room_high, kind] = head;
+    Ok(Some(Head {
+        len: u16::from_le_bytes([len_low, len_high]) as usize,
+        room: u16::from_le_bytes([room_low, room_high]) as usize,
+        kind,
+    }))
 }
 
-// One line: the first `n` bytes.
-pub fn show_bytes<W: Write>(to: &mut W, bytes: &[u8], n: usize) -> io::Result<()> {
-    for i in 0..n {
-        show_byte(to, bytes, i)?;
+// One line: the first `n` bytes, or all where there are fewer.
+pub fn show_bytes<W: Write>(to: &mut W, bytes: &[u8], n: usize) -> io::Result<()>
+    ensures { OnOk result (Appends (W.contents to.old) (W.contents to.new) (shown (take n bytes.now))) }
+{
+    for byte in &bytes[..n.min(bytes.len())] {
+        write!(to, "{byte:02x}")?;
     }
     to.write_all(b"\n")
 }

@@ -13,12 +13,12 @@ use lib.Dec.{ltb, eqb}
 use lib.ListN.{length, take, drop, get_or, length-append, length-drop, get_or-append}
 use lib.Seq.{take-append-le, drop-append-le}
 use lib.Ieee.{binary32, binary64, of_bits}
-use Rattle.number.specs.declared.Reading.{Reading}
-use Rattle.number.specs.declared.Reading.TheVariants.{Number, CutShort, Bad}
-use Rattle.number.specs.Read.{leading, number_of, shortest, right_end, read_from, read_at}
+use Rattle.std.specs.Prelude.{Ok, Err}
+use Rattle.number.specs.declared.Fault.TheVariants.{CutShort, BadNumber}
+use Rattle.number.specs.Read.{Reading, leading, number_of, shortest, right_end, read_from, read_at}
 use Rattle.number.specs.Read as Read
 use Rattle.number.proofs.Judge.{judged_by_end}
-use Rattle.number.proofs.Exact.{below_small}
+use Rattle.number.proofs.Exact.{err_is_none, same_parts, below_small}
 use Rattle.fields.specs.Parser.{Parsed, read, fault, cut_short, bad_number, after, Parser, ◌then◌, done, ◌that◌, when, row}
 use Rattle.fields.specs.Fields.{parsed, number, below, up_to, f32, f64}
 use Rattle.streams.specs.Streams.{unending, Streams}
@@ -67,36 +67,39 @@ module _ (l : List ℕ) (at : ℕ) where
       by_form true false less false nine e = absurd (false≢true e)
       by_form false u less v nine e = absurd (false≢true e)
 
-  there : leading l < length l → (v next : ℕ) → read_from l at ≡ Number v next → (next ≡ at + suc (leading l)) × (leading l ≤ 9)
+  there : leading l < length l → (v next : ℕ) → read_from l at ≡ Ok (v, next) → (next ≡ at + suc (leading l)) × (leading l ≤ 9)
   there h v next e = by_end (right_end (leading l) (get_or l (leading l) 0)) refl (sym (judged_by_end l h at) ∙ e)
     where
       by_end : (t : Bool) → right_end (leading l) (get_or l (leading l) 0) ≡ t
-          → cond t (Number (number_of (take (suc (leading l)) l)) (at + suc (leading l))) Bad ≡ Number v next → (next ≡ at + suc (leading l)) × (leading l ≤ 9)
-      by_end true right e = (cc, few (leading l) (get_or l (leading l) 0) right)
-      by_end false right e = let z : ◌≡◌ {A = ℕ} 0 1 = cc in absurd (omega arith)
+          → cond {A = Reading} t (Ok (number_of (take (suc (leading l)) l), at + suc (leading l))) (Err BadNumber) ≡ Ok (v, next) → (next ≡ at + suc (leading l)) × (leading l ≤ 9)
+      by_end true right e = ((same_parts e).1, few (leading l) (get_or l (leading l) 0) right)
+      by_end false right e = absurd (err_is_none e)
 
-  long_bad : leading l < length l → 9 < leading l → read_from l at ≡ Bad
+  long_bad : leading l < length l → 9 < leading l → read_from l at ≡ Err BadNumber
   long_bad h long = judged_by_end l h at ∙ by_end (right_end (leading l) (get_or l (leading l) 0)) refl
     where
       by_end : (t : Bool) → right_end (leading l) (get_or l (leading l) 0) ≡ t
-          → cond t (Number (number_of (take (suc (leading l)) l)) (at + suc (leading l))) Bad ≡ Bad
+          → cond {A = Reading} t (Ok (number_of (take (suc (leading l)) l), at + suc (leading l))) (Err BadNumber) ≡ Err BadNumber
       by_end true right = absurd (omega (arith, few (leading l) (get_or l (leading l) 0) right))
       by_end false right = refl
 
+other_fault : ◌≡◌ {A = Reading} (Err BadNumber) (Err CutShort) → ⊥
+other_fault e = cc
+
 -- without a last byte it is cut short
-none : (l : List ℕ) (at : ℕ) → length l ≤ leading l → read_from l at ≡ CutShort
+none : (l : List ℕ) (at : ℕ) → length l ≤ leading l → read_from l at ≡ Err CutShort
 unfolding read_from
 none l at h = rw (le-ltb (leading l) (length l) h)
 
-pub all_leads : (l : List ℕ) (at : ℕ) → read_from l at ≡ CutShort → length l ≤ leading l
+pub all_leads : (l : List ℕ) (at : ℕ) → read_from l at ≡ Err CutShort → length l ≤ leading l
 all_leads l at e = by_test (ltb (leading l) (length l)) refl
   where
     by_test : (t : Bool) → ltb (leading l) (length l) ≡ t → length l ≤ leading l
     by_test true h = by_end (right_end (leading l) (get_or l (leading l) 0)) (sym (judged_by_end l (ltb-true _ _ h) at) ∙ e)
       where
-        by_end : (u : Bool) → cond u (Number (number_of (take (suc (leading l)) l)) (at + suc (leading l))) Bad ≡ CutShort → length l ≤ leading l
-        by_end true z = let w : ◌≡◌ {A = ℕ} 0 1 = cc in absurd (omega arith)
-        by_end false z = let w : ◌≡◌ {A = ℕ} 0 1 = cc in absurd (omega arith)
+        by_end : (u : Bool) → cond {A = Reading} u (Ok (number_of (take (suc (leading l)) l), at + suc (leading l))) (Err BadNumber) ≡ Err CutShort → length l ≤ leading l
+        by_end true z = absurd (err_is_none (sym z))
+        by_end false z = absurd (other_fault z)
     by_test false h = ltb-false _ _ h
 
 fault_same : {A : Type 0} {m n : ℕ} → ◌≡◌ {A = Parsed A} (fault m) (fault n) → m ≡ n
@@ -106,7 +109,7 @@ fault_same e = cc
 
 module _ (s more : List ℕ) (at : ℕ) where
   -- what is read or bad has a last byte, and so its place is within the bytes
-  pub ends : (r : Reading) → read_at s at ≡ r → (r ≡ CutShort → ⊥) → leading (drop at s) < length (drop at s)
+  pub ends : (r : Reading) → read_at s at ≡ r → (r ≡ Err CutShort → ⊥) → leading (drop at s) < length (drop at s)
   unfolding read_at
   ends r e some = by_test (ltb (leading (drop at s)) (length (drop at s))) refl
     where
@@ -124,7 +127,7 @@ module _ (s more : List ℕ) (at : ℕ) where
       rw (dropped here) (same_front (drop at s) more at h)
 
   -- cut short, and more than ten bytes long
-  long_reading : read_at s at ≡ CutShort → at + 10 < length s → read_at (s ++ more) at ≡ cond (ltb (leading more) (length more)) Bad CutShort
+  long_reading : read_at s at ≡ Err CutShort → at + 10 < length s → read_at (s ++ more) at ≡ cond (ltb (leading more) (length more)) (Err BadNumber) (Err CutShort)
   unfolding read_at
   long_reading e far =
       let here : at ≤ length s = omega arith in
@@ -132,7 +135,7 @@ module _ (s more : List ℕ) (at : ℕ) where
       rw (dropped here) (by_test long (all_leads (drop at s) at e) (ltb (leading more) (length more)) refl)
     where
       by_test : 10 < length (drop at s) → length (drop at s) ≤ leading (drop at s) → (t : Bool) → ltb (leading more) (length more) ≡ t
-          → read_from (drop at s ++ more) at ≡ cond t Bad CutShort
+          → read_from (drop at s ++ more) at ≡ cond t (Err BadNumber) (Err CutShort)
       by_test long all true h =
           let count = on (drop at s) more all in
           long_bad (drop at s ++ more) at (omega (arith, length-append (drop at s) more, ltb-true (leading more) (length more) h)) (omega arith)
@@ -142,25 +145,25 @@ module _ (s more : List ℕ) (at : ℕ) where
 
 -- ---- a number, of which a field makes what it will
 
-module _ {A : Type 0} (f : Reading → Parsed A) (cut : f CutShort ≡ fault cut_short) (bad : f Bad ≡ fault bad_number)
-    (place : (v n next : ℕ) (a : A) → f (Number v n) ≡ read a next → n ≡ next) (no_cut : (v n : ℕ) → f (Number v n) ≡ fault cut_short → ⊥) where
-  was_cut : (r : Reading) → f r ≡ fault cut_short → r ≡ CutShort
-  was_cut (Number v n) e = absurd (no_cut v n e)
-  was_cut CutShort e = refl
-  was_cut Bad e = let z : ◌≡◌ {A = ℕ} 13 12 = fault_same (sym bad ∙ e) in absurd (omega arith)
+module _ {A : Type 0} (f : Reading → Parsed A) (cut : f (Err CutShort) ≡ fault cut_short) (bad : f (Err BadNumber) ≡ fault bad_number)
+    (place : (v n next : ℕ) (a : A) → f (Ok (v, n)) ≡ read a next → n ≡ next) (no_cut : (v n : ℕ) → f (Ok (v, n)) ≡ fault cut_short → ⊥) where
+  was_cut : (r : Reading) → f r ≡ fault cut_short → r ≡ Err CutShort
+  was_cut (Ok (v, n)) e = absurd (no_cut v n e)
+  was_cut (Err CutShort) e = refl
+  was_cut (Err BadNumber) e = let z : ◌≡◌ {A = ℕ} 13 12 = fault_same (sym bad ∙ e) in absurd (omega arith)
 
-  not_cut : {x : Parsed A} (r : Reading) → f r ≡ x → (x ≡ fault cut_short → ⊥) → r ≡ CutShort → ⊥
+  not_cut : {x : Parsed A} (r : Reading) → f r ≡ x → (x ≡ fault cut_short → ⊥) → r ≡ Err CutShort → ⊥
   not_cut r e some is = some (sym e ∙ ap f is ∙ cut)
 
   number_within : (s : List ℕ) (at : ℕ) (r : Reading) (next : ℕ) (a : A) → read_at s at ≡ r → f r ≡ read a next → (at ≤ next) × (next ≤ length s) × (next ≤ at + 10)
   unfolding read_at
-  number_within s at (Number v n) next a is e =
-      let h = ends s [] at (Number v n) is (λ z. let w : ◌≡◌ {A = ℕ} 0 1 = cc in omega arith) in
+  number_within s at (Ok (v, n)) next a is e =
+      let h = ends s [] at (Ok (v, n)) is (λ z. err_is_none (sym z)) in
       let p = there (drop at s) at h v n is in
       let same = place v n next a e in
       (omega arith, omega (arith, length-drop at s), omega arith)
-  number_within s at CutShort next a is e = absurd (no_fault (sym cut ∙ e))
-  number_within s at Bad next a is e = absurd (no_fault (sym bad ∙ e))
+  number_within s at (Err CutShort) next a is e = absurd (no_fault (sym cut ∙ e))
+  number_within s at (Err BadNumber) next a is e = absurd (no_fault (sym bad ∙ e))
 
   pub reading_streams : Streams (λ s at. f (read_at s at)) 10
   unfolding unending
@@ -177,7 +180,7 @@ module _ {A : Type 0} (f : Reading → Parsed A) (cut : f CutShort ≡ fault cut
             ap f (long_reading s more at (was_cut (read_at s at) e) far) ∙ by_test (ltb (leading more) (length more));
       }
     where
-      by_test : (t : Bool) → f (cond t Bad CutShort) ≡ fault (cond t bad_number cut_short)
+      by_test : (t : Bool) → f (cond t (Err BadNumber) (Err CutShort)) ≡ fault (cond t bad_number cut_short)
       by_test true = bad
       by_test false = cut
 
@@ -189,11 +192,11 @@ pub below_streams : (limit : ℕ) → Streams (below limit) 10
 unfolding below Read.below
 below_streams limit = reading_streams (λ r. parsed (Read.below limit r)) refl refl (λ v n next a e. by_limit (ltb v limit) v n next a e) (λ v n e. bad_limit (ltb v limit) v n e)
   where
-    by_limit : (t : Bool) (v n next a : ℕ) → parsed (cond t (Number v n) Bad) ≡ read a next → n ≡ next
+    by_limit : (t : Bool) (v n next a : ℕ) → parsed (cond {A = Reading} t (Ok (v, n)) (Err BadNumber)) ≡ read a next → n ≡ next
     by_limit true v n next a e = same_place e
     by_limit false v n next a e = absurd (no_fault e)
 
-    bad_limit : (t : Bool) (v n : ℕ) → parsed (cond t (Number v n) Bad) ≡ fault cut_short → ⊥
+    bad_limit : (t : Bool) (v n : ℕ) → parsed (cond {A = Reading} t (Ok (v, n)) (Err BadNumber)) ≡ fault cut_short → ⊥
     bad_limit true v n e = no_fault (sym e)
     bad_limit false v n e = let z : ◌≡◌ {A = ℕ} 13 12 = fault_same e in omega arith
 
@@ -201,7 +204,7 @@ pub number_ahead : (s : List ℕ) (at v next : ℕ) → number s at ≡ read v n
 unfolding number read_at
 number_ahead s at v next e =
     let is = parsed_read (read_at s at) e in
-    let h = ends s [] at (Number v next) is (λ z. let w : ◌≡◌ {A = ℕ} 0 1 = cc in omega arith) in
+    let h = ends s [] at (Ok (v, next)) is (λ z. err_is_none (sym z)) in
     let p = there (drop at s) at h v next is in
     omega arith
 
@@ -213,14 +216,14 @@ pub below_ahead : (limit : ℕ) → Ahead (below limit)
 unfolding below Read.below number
 below_ahead limit s at next v here e = by_reading (read_at s at) refl e
   where
-    by_limit : (t : Bool) (w m : ℕ) → number s at ≡ read w m → parsed (cond t (Number w m) Bad) ≡ read v next → at < next
+    by_limit : (t : Bool) (w m : ℕ) → number s at ≡ read w m → parsed (cond {A = Reading} t (Ok (w, m)) (Err BadNumber)) ≡ read v next → at < next
     by_limit true w m is e = let far = number_ahead s at w m is in let same = same_place e in omega arith
     by_limit false w m is e = absurd (no_fault e)
 
     by_reading : (r : Reading) → read_at s at ≡ r → parsed (Read.below limit r) ≡ read v next → at < next
-    by_reading (Number w m) is e = by_limit (ltb w limit) w m (ap parsed is) e
-    by_reading CutShort is e = absurd (no_fault e)
-    by_reading Bad is e = absurd (no_fault e)
+    by_reading (Ok (w, m)) is e = by_limit (ltb w limit) w m (ap parsed is) e
+    by_reading (Err CutShort) is e = absurd (no_fault e)
+    by_reading (Err BadNumber) is e = absurd (no_fault e)
 
 -- ---- a number of more than ten bytes, and some bytes more of it
 

@@ -14,13 +14,10 @@ use lib.ListN.{length, take, length-append, length-replicate}
 use lib.Ieee.{Float}
 use Rattle.floatlaws.specs.Numbers.{f32_0}
 use Rattle.listlaws.proofs.Over.{over_none}
-use Rattle.number.specs.declared.Reading as Numbers
-use Rattle.number.specs.declared.Reading.TheVariants.{Number, CutShort, Bad}
-use Rattle.number.specs.declared.Writing.{Writing}
-use Rattle.number.specs.Read.{leading, read_at}
-use Rattle.fields.specs.declared.reader.Place.{Place}
+use Rattle.number.specs.declared.Fault.TheVariants.{CutShort}
+use Rattle.std.specs.Prelude.{Option, Err}
+use Rattle.number.specs.Read.{Reading, leading, read_at}
 use Rattle.fields.specs.Parser.{read, fault}
-use Rattle.fields.specs.Places.{Reads}
 use Rattle.streams.proofs.Parsers.{all_leads, ends}
 use Rattle.questions.proofs.Facts.{BlockAccepted, block_accepted}
 use Rattle.calls.specs.Calls.{block, bus, questions, answer, accepts, accepted, step}
@@ -43,7 +40,6 @@ use Rattle.text.proofs.Answers.{wrote}
 use Rattle.sittings.specs.declared.Event.{Event}
 use Rattle.sittings.specs.declared.Event.TheVariants.{Block, Restart, Bus, End}
 use Rattle.turns.specs.declared.Progress.{Progress}
-use Rattle.turns.specs.declared.Progress.TheVariants as Progress
 use Rattle.turns.specs.declared.Sitting.{Sitting}
 use Rattle.turns.specs.declared.Turned.{Turned}
 use Rattle.sittings.specs.Events.{event}
@@ -87,7 +83,7 @@ module _ {t : Sitting} {out : List ℕ} {place : ℕ} (g : Going t out place) wh
         valid = valid;
       })
 
-  pub turn_writes : {text : List ℕ} {w : Writing} {out' : List ℕ} → Writes out place text w out' → length text ≤ turn_room
+  pub turn_writes : {text : List ℕ} {w : Option ℕ} {out' : List ℕ} → Writes out place text w out' → length text ≤ turn_room
       → (s : Sitting) → s.index ≤ suc t.index → Valid s.player → (taken : ℕ) {r : Turned}
       → r ≡ record { sitting = s; taken = taken; place = place_after w place; wants = false } → OneTurn t (went text taken (stage_of s)) out place r out'
   turn_writes {text} w short s counts valid taken e =
@@ -121,7 +117,7 @@ fault_short true t n h i = omega (arith, size_most n h, numbers_length n [])
 fault_short false t n h i = omega (arith, size_most t.index i, numbers_length t.index (n ∷ []), more_short n h)
 
 -- it ends the sitting
-pub turn_fails : {t : Sitting} {out : List ℕ} {place : ℕ} (g : Going t out place) (item : Bool) (n taken : ℕ) → n < 2 ^ 64 → {w : Writing} {out' : List ℕ}
+pub turn_fails : {t : Sitting} {out : List ℕ} {place : ℕ} (g : Going t out place) (item : Bool) (n taken : ℕ) → n < 2 ^ 64 → {w : Option ℕ} {out' : List ℕ}
     → Writes out place (cond item (numbers n []) (failed t.index n)) w out' → {r : Turned}
     → r ≡ record { sitting = with_progress t Progress.NoMore; taken = taken; place = place_after w place; wants = false }
     → OneTurn t (went (fault_line (reading_of item t) n) taken Windows.no_more) out place r out'
@@ -196,7 +192,7 @@ module _ (t : Sitting) (frames taken : ℕ) (x y : List Float) (hx : length x �
       pub block_fits : length x' ≡ length x → length y' ≡ length y → (frames ≤ length x') × (frames ≤ length y') × (frames ≤ 2 ^ 32) × (t.player.deck.played + frames ≤ 2 ^ 64)
       block_fits ex ey = let f = block_facts in (omega (arith, f.short), omega (arith, f.short), omega (arith, f.short), omega (arith, f.within_life))
 
-      pub block_turned : length x' ≡ length x → length y' ≡ length y → {out : List ℕ} {place : ℕ} → Going t out place → {v : Writing} {out' : List ℕ}
+      pub block_turned : length x' ≡ length x → length y' ≡ length y → {out : List ℕ} {place : ℕ} → Going t out place → {v : Option ℕ} {out' : List ℕ}
           → Writes out place (lines t.player.deck.played (take frames x') (take frames y')) v out'
           → {moved : TransportCodes} → moved ≡ moved_on t.transport frames → {next : ℕ} → next ≡ place_after v place
           → {q : Turned} → q ≡ record { sitting = next_sitting t (with_deck t.player r.deck) moved no_restart; taken = taken; place = next; wants = false }
@@ -246,37 +242,24 @@ unfolding stuck_turn
 stuck_none r [] h = refl
 stuck_none r (b ∷ l) h = absurd (omega arith)
 
-abbrev start : Place
-start = record { at = 0; fault = 0 }
-
 playing_read : (p : Course) (l : List ℕ) → (length l ≡ 0 → ⊥) → playing_turn p l ≡ read_turn p l (event l 0)
 unfolding playing_turn
 playing_read p [] some = absurd (some refl)
 playing_read p (b ∷ l) some = refl
 
-module _ (t : Sitting) (l : List ℕ) (some : length l ≡ 0 → ⊥) {e : Event} {next : Place} (r : Reads (event l) start e next) where
-  pub playing_fault : (next.fault ≡ 0 → ⊥) → playing_turn (course_of t) l ≡ fault_turn (the_event t.index) l next.fault
+module _ (t : Sitting) (l : List ℕ) (some : length l ≡ 0 → ⊥) where
+  pub playing_fault : (n : ℕ) → fault n ≡ event l 0 → playing_turn (course_of t) l ≡ fault_turn (the_event t.index) l n
   unfolding read_turn
-  playing_fault fails =
-      let is : event l 0 ≡ fault next.fault = sym (rw (ne_eqb next.fault 0 fails) at r.is) in
-      playing_read (course_of t) l some ∙ rw is
+  playing_fault n is = playing_read (course_of t) l some ∙ rw (← is)
 
-  pub playing_event : next.fault ≡ 0 → playing_turn (course_of t) l ≡ event_turn (course_of t) e next.at
+  pub playing_event : (e : Event) (taken : ℕ) → read e taken ≡ event l 0 → playing_turn (course_of t) l ≡ event_turn (course_of t) e taken
   unfolding read_turn
-  playing_event good =
-      let is : event l 0 ≡ read e next.at = sym (rw (eq-eqb next.fault 0 good) at r.is) in
-      playing_read (course_of t) l some ∙ rw is
+  playing_event e taken is = playing_read (course_of t) l some ∙ rw (← is)
 
 pub closing_some : (index : ℕ) (l : List ℕ) → (length l ≡ 0 → ⊥) → closing_turn index l ≡ went (failed index 14) (length l) Windows.no_more
 unfolding closing_turn
 closing_some index [] some = absurd (some refl)
 closing_some index (b ∷ l) some = refl
-
-pub number_not : {v n : ℕ} → Number v n ≡ CutShort → ⊥
-number_not e = let z : ◌≡◌ {A = ℕ} 0 1 = cc in omega arith
-
-pub bad_not : Bad ≡ CutShort → ⊥
-bad_not e = let z : ◌≡◌ {A = ℕ} 0 1 = cc in omega arith
 
 stuck_some : (r : BeingRead) (l : List ℕ) → (length l ≡ 0 → ⊥)
     → stuck_turn r l ≡ cond (ltb (leading l) (length l)) (went (fault_line r 13) (length l) Windows.no_more) (went [] (length l) (stuck r))
@@ -285,11 +268,11 @@ stuck_some r [] some = absurd (some refl)
 stuck_some r (b ∷ l) some = refl
 
 module _ (r : BeingRead) (l : List ℕ) (some : length l ≡ 0 → ⊥) where
-  pub stuck_on : read_at l 0 ≡ CutShort → stuck_turn r l ≡ went [] (length l) (stuck r)
+  pub stuck_on : read_at l 0 ≡ Err CutShort → stuck_turn r l ≡ went [] (length l) (stuck r)
   unfolding read_at
   stuck_on e = stuck_some r l some ∙ rw (le-ltb (leading l) (length l) (all_leads l 0 e))
 
-  pub stuck_ends : (x : Numbers.Reading) → read_at l 0 ≡ x → (x ≡ CutShort → ⊥) → stuck_turn r l ≡ went (fault_line r 13) (length l) Windows.no_more
+  pub stuck_ends : (x : Reading) → read_at l 0 ≡ x → (x ≡ Err CutShort → ⊥) → stuck_turn r l ≡ went (fault_line r 13) (length l) Windows.no_more
   stuck_ends x e other = stuck_some r l some ∙ rw (lt-ltb (leading l) (length l) (ends l [] 0 x e other))
 
 -- ---- what is printed last
@@ -297,7 +280,7 @@ module _ (r : BeingRead) (l : List ℕ) (some : length l ≡ 0 → ⊥) where
 pub last_none : (out : List ℕ) → Puts out 0 [] 0 out
 last_none out = record { next = refl; bytes = sym (over_none out 0) }
 
-pub last_puts : (item : Bool) (t : Sitting) (n : ℕ) → n < 2 ^ 64 → t.index < 2 ^ 64 → {out : List ℕ} → turn_room ≤ length out → {w : Writing} {out' : List ℕ}
+pub last_puts : (item : Bool) (t : Sitting) (n : ℕ) → n < 2 ^ 64 → t.index < 2 ^ 64 → {out : List ℕ} → turn_room ≤ length out → {w : Option ℕ} {out' : List ℕ}
     → Writes out 0 (cond item (numbers n []) (failed t.index n)) w out' → {r : ℕ} → r ≡ place_after w 0 → Puts out 0 (fault_line (reading_of item t) n) r out'
 last_puts item t n small few room w e =
     let line = rw (fault_line_lem item t n) at w in
@@ -335,7 +318,7 @@ by_progress t l e {out} {place} {r} {out'} w = subst (λ m. OneTurn t m out plac
 -- ---- an item that was accepted
 
 pub turn_starts : {t : Sitting} {out : List ℕ} {place : ℕ} → Going t out place → {player : Player} → Valid player → (transport : TransportCodes) (taken : ℕ)
-    → {w : Writing} {out' : List ℕ} → Writes out place header w out' → {end : ℕ} → end ≡ place_after w place
+    → {w : Option ℕ} {out' : List ℕ} → Writes out place header w out' → {end : ℕ} → end ≡ place_after w place
     → OneTurn t (went header taken (playing (start_of player transport))) out place
     (record { sitting = record { progress = Progress.Playing; player = player; transport = transport; waiting = no_restart; index = 0 }; taken = taken; place = end; wants = false })
     out'
@@ -343,16 +326,12 @@ unfolding header
 turn_starts g {player} valid transport taken written e =
     turn_writes g written (omega arith) (record { progress = Progress.Playing; player = player; transport = transport; waiting = no_restart; index = 0 }) (omega arith) valid taken (rw e)
 
-module _ (l : List ℕ) (c : ItemCodes) {next : Place} (r : Reads (accepted_item l) start c next) where
-  pub item_fault : (next.fault ≡ 0 → ⊥) → item_turn l (accepted_item l 0) ≡ fault_turn the_item l next.fault
+module _ (l : List ℕ) where
+  pub item_fault : (n : ℕ) → fault n ≡ accepted_item l 0 → item_turn l (accepted_item l 0) ≡ fault_turn the_item l n
   unfolding item_turn
-  item_fault fails =
-      let is : accepted_item l 0 ≡ fault next.fault = sym (rw (ne_eqb next.fault 0 fails) at r.is) in
-      rw is
+  item_fault n is = rw (← is)
 
-  pub item_starts : next.fault ≡ 0 → (player : Player) → state_of player ≡ item_state c → {transport : TransportCodes} → transport ≡ transport_of c
-      → item_turn l (accepted_item l 0) ≡ went header next.at (playing (start_of player transport))
+  pub item_starts : (c : ItemCodes) (taken : ℕ) → read c taken ≡ accepted_item l 0 → (player : Player) → state_of player ≡ item_state c → {transport : TransportCodes} → transport ≡ transport_of c
+      → item_turn l (accepted_item l 0) ≡ went header taken (playing (start_of player transport))
   unfolding item_turn started
-  item_starts good player state_is transport_is =
-      let is : accepted_item l 0 ≡ read c next.at = sym (rw (eq-eqb next.fault 0 good) at r.is) in
-      rw (is, state_is, transport_is)
+  item_starts c taken is player state_is transport_is = rw (← is, state_is, transport_is)

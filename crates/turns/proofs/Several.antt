@@ -22,7 +22,6 @@ use Rattle.player.specs.Player.{Valid}
 use Rattle.sittings.specs.declared.Event.{Event}
 use Rattle.sittings.specs.declared.Event.TheVariants.{Block, Restart, Bus, End}
 use Rattle.turns.specs.declared.Progress.{Progress}
-use Rattle.turns.specs.declared.Progress.TheVariants as Progress
 use Rattle.turns.specs.declared.Sitting.{Sitting}
 use Rattle.turns.specs.declared.Turned.{Turned}
 use Rattle.turns.specs.declared.Step.{Step}

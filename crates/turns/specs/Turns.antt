@@ -1,14 +1,11 @@
 -- What the code promises of a sitting that goes in by value and comes back. Assumes nothing.
-use Rattle.std.specs.Prelude.{ℕ, suc, ◌+◌, ◌≤◌, ◌<◌, ◌^◌, ◌≡◌, Bool, true, false, cond, List, [], ◌⊎◌, length, drop}
+use Rattle.std.specs.Prelude.{ℕ, suc, ◌+◌, ◌≤◌, ◌<◌, ◌^◌, ◌≡◌, Bool, true, false, cond, List, [], ◌⊎◌, length, drop, Option, Some, None}
 use Rattle.listlaws.specs.Over.{over}
-use Rattle.number.specs.declared.Writing.{Writing}
-use Rattle.number.specs.declared.Writing.TheVariants.{Next, NoRoom}
 use Rattle.codes.specs.declared.TransportCodes.{TransportCodes}
 use Rattle.codes.specs.declared.RestartCodes.{RestartCodes}
 use Rattle.player.specs.declared.Player.{Player}
 use Rattle.player.specs.Player.{state_of, Valid}
 use Rattle.turns.specs.declared.Progress.{Progress}
-use Rattle.turns.specs.declared.Progress.TheVariants as Progress
 use Rattle.turns.specs.declared.Sitting.{Sitting}
 use Rattle.turns.specs.declared.Turned.{Turned}
 use Rattle.turns.specs.declared.Step.{Step}
@@ -59,9 +56,9 @@ with_progress t progress = record { progress = progress; player = t.player; tran
 abbrev pub next_sitting : Sitting → Player → TransportCodes → RestartCodes → Sitting
 next_sitting t player transport waiting = record { progress = Progress.Playing; player = player; transport = transport; waiting = waiting; index = t.index + 1 }
 
-abbrev pub place_after : Writing → ℕ → ℕ
-place_after (Next next) place = next
-place_after NoRoom place = place
+abbrev pub place_after : Option ℕ → ℕ → ℕ
+place_after (Some next) place = next
+place_after None place = place
 
 -- the bytes that the lines of a block need at most: 4,096 lines of 39 bytes
 abbrev pub turn_room : ℕ

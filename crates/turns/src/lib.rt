@@ -29,7 +29,7 @@ pub enum Progress {
     NoMore,
 }
 
-#[derive(Drop)]
+#[derive(Clone, Copy)]
 pub struct Sitting {
     pub progress: Progress,
     pub player: Player,
@@ -41,7 +41,7 @@ pub struct Sitting {
 }
 
 // What one turn did: it wants more bytes, and nothing has changed; or it took so many bytes, printed up to a place, and left this sitting.
-#[derive(Drop)]
+#[derive(Clone, Copy)]
 pub struct Turned {
     pub sitting: Sitting,
     pub taken: usize,
@@ -50,7 +50,7 @@ pub struct Turned {
 }
 
 // What some turns did: they took so many bytes, printed so many, and left this sitting. `full` says that the buffer may be too short for the next turn.
-#[derive(Drop)]
+#[derive(Clone, Copy)]
 pub struct Step {
     pub sitting: Sitting,
     pub taken: usize,

@@ -12,8 +12,7 @@ ghost use Rattle.turns.specs.Turns.{course_of, start_of, stage_of, reading_of, s
 
 use super::{Progress, Sitting, Step, Turned};
 use codes::{RestartCodes, TransportCodes};
-use fields::Place;
-use number::{Reading, Writing};
+use number::Fault;
 use player::Player;
 use sittings::{Event, moved_on, read_event};
 
@@ -21,13 +20,10 @@ use sittings::{Event, moved_on, read_event};
 const TURN_ROOM: usize = 159744;
 
 // The place after a text that was written.
-fn place_after(w: Writing, place: usize) -> usize
+fn place_after(w: Option<usize>, place: usize) -> usize
     ensures { result ≡ place_after w place }
 {
-    match w {
-        Writing::Next(next) => next,
-        Writing::NoRoom => place,
-    }
+    w.unwrap_or(place)
 }
 
 fn with_progress(t: Sitting, progress: Progress) -> Sitting
@@ -91,7 +87,7 @@ fn most_of(item: bool) -> usize
 }
 
 // Writes the line of a fault in the item or in the event `index`.
-fn write_fault(item: bool, index: u64, n: u8, out: &mut [u8], place: usize) -> Writing
+fn write_fault(item: bool, index: u64, n: u8, out: &mut [u8], place: usize) -> Option<usize>
     ensures { Writes out.old place (cond item (numbers n []) (failed index n)) result out.new }
 {
     if item {
@@ -109,7 +105,7 @@ fn fail(t: Sitting, item: bool, n: u8, taken: usize, out: &mut [u8], place: usiz
     go(t, Progress::NoMore, taken, place_after(w, place))
 }
 
-// A fault in the item or in the event that is read from `s`.
+// A fault in the item or in the event that is read from `s`: by its number, which the sheet prints and which both kinds of refusal have.
 fn fault_turn(t: Sitting, item: bool, s: &[u8], n: u8, out: &mut [u8], place: usize) -> Turned
     requires { Going t out.old place }
     ensures { OneTurn t (fault_turn (reading_of item t) s.now n) out.old place result out.new }
@@ -202,7 +198,8 @@ fn block_turn(
     if r.answer != 0 {
         return fail(t, false, r.answer, taken, out, place);
     }
-    let w = text::write_lines(out, place, first, x, y, frames as usize);
+    let n = frames as usize;
+    let w = text::write_lines(out, place, first, &x[..n], &y[..n]);
     let deck = r.deck;
     p.deck = deck;
     let none = RestartCodes { code: 0, frame: 0 };
@@ -279,14 +276,10 @@ fn playing_turn(
     if s.len() == 0 {
         return wait(t, place);
     }
-    let start = Place { at: 0, fault: 0 };
-    let e = read_event(s, start);
-    let next = e.next;
-    if next.fault != 0 {
-        return fault_turn(t, false, s, next.fault, out, place);
+    match read_event(s, 0) {
+        Ok((event, taken)) => event_turn(t, event, taken, x, y, out, place),
+        Err(fault) => fault_turn(t, false, s, fault.number(), out, place),
     }
-    let event = e.event;
-    event_turn(t, event, next.at, x, y, out, place)
 }
 
 // After the end.
@@ -311,9 +304,9 @@ fn stuck_turn(t: Sitting, item: bool, s: &[u8], out: &mut [u8], place: usize) ->
         return wait(t, place);
     }
     match number::read(s, 0) {
-        Reading::CutShort => go(t, stuck_progress(item), len, place),
-        Reading::Number { value: _, next: _ } => fail(t, item, 13, len, out, place),
-        Reading::Bad => fail(t, item, 13, len, out, place),
+        Err(Fault::CutShort) => go(t, stuck_progress(item), len, place),
+        Err(Fault::BadNumber) => fail(t, item, 13, len, out, place),
+        Ok(_) => fail(t, item, 13, len, out, place),
     }
 }
 
@@ -322,16 +315,14 @@ fn open_turn(t: Sitting, s: &[u8], out: &mut [u8], place: usize) -> Turned
     requires { Going t out.old place }
     ensures { OneTurn t (item_turn s.now (accepted_item s.now 0)) out.old place result out.new }
 {
-    let start = Place { at: 0, fault: 0 };
-    let r = item_reader::read_accepted(s, start);
-    let next = r.next;
-    if next.fault != 0 {
-        return fault_turn(t, true, s, next.fault, out, place);
+    match item_reader::read_accepted(s, 0) {
+        Ok((item, taken)) => {
+            let transport = record::transport(item);
+            let player = item_player::player_of(item);
+            start_turn(t, player, transport, taken, out, place)
+        }
+        Err(refusal) => fault_turn(t, true, s, refusal.number(), out, place),
     }
-    let item = r.value;
-    let transport = record::transport(item);
-    let player = item_player::player_of(item);
-    start_turn(t, player, transport, next.at, out, place)
 }
 
 // One turn.
@@ -350,7 +341,7 @@ fn turn(t: Sitting, s: &[u8], x: &mut [f32], y: &mut [f32], out: &mut [u8], plac
     }
 }
 
-// OneTurn by the bytes at hand, as long as they decide and `out` has room for what a turn may print.
+// Turns by the bytes at hand, as long as they decide and `out` has room for what a turn may print. How far one goes is known only after it, so this is no `for`.
 pub fn take_turns(t: Sitting, s: &[u8], x: &mut [f32], y: &mut [f32], out: &mut [u8]) -> Step
     requires { Running t s.now out.old × (length x.old ≡ 4096) × (length y.old ≡ 4096) }
     ensures { SomeTurns t s.now out.old result out.new }

@@ -15,7 +15,7 @@ use Rattle.settings.specs.declared.choices.Direction.{Direction}
 use Rattle.voice.specs.declared.generator.Generated.{Generated}
 use Rattle.voice.specs.declared.generator.Kept.{Kept}
 use Rattle.voice.specs.declared.source.Source.{Source}
-use Rattle.voice.specs.Source.{is_path, is_lorenz, cycle_of, step_of}
+use Rattle.voice.specs.Source.{is_path, attractor_of, cycle_of, step_of}
 use Rattle.voice.specs.Curve.{Curve, drawn_at, path_at, HoldsFor, Searchable, KeptFor}
 use Rattle.voice.specs.Generate.{place_of, source_after, raw_of, shaped_at, held_at, chaotic_at, Generates}
 
@@ -66,7 +66,7 @@ module _ (mode : Mode) (direction : Direction) (q : Curve) (b : Block) (s : Sour
   shape_gives SampleAndHold h up e = absurd (neither (λ (e : ◌≡◌ {A = ℕ} 4 0). omega arith) (λ (e : ◌≡◌ {A = ℕ} 4 1). omega arith) h)
 
   -- what `chaotic` gives
-  pub chaos_gives : (kind : LfoType) → OneOf 2 3 kind → r ≡ chaotic_at (is_lorenz kind) (step_of mode c b.chaos_h) b.chaos_steps s k → Generates kind mode direction q b s c r
+  pub chaos_gives : (kind : LfoType) → OneOf 2 3 kind → r ≡ chaotic_at (attractor_of kind) (step_of mode c b.chaos_h) b.chaos_steps s k → Generates kind mode direction q b s c r
   unfolding KeptFor source_after raw_of chaotic_at
   chaos_gives Lorenz h e =
       record { source_is = ap (λ (g : Generated). g.source) e; x_is = ap (λ (g : Generated). g.x) e; y_is = ap (λ (g : Generated). g.y) e; kept_is = tt }

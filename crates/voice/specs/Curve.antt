@@ -1,14 +1,14 @@
 -- The curve that a stretch of frames reads, its points as moved by their buses, and what may be kept of a search. Assumes nothing.
-use Rattle.std.specs.Prelude.{◌≡◌, ℕ, suc, ◌≤◌, Bool, true, false, T, List, Float}
+use Rattle.std.specs.Prelude.{◌≡◌, ℕ, suc, ◌≤◌, Bool, true, false, T, List, Float, Option}
 use Rattle.points.specs.Arrays.{Ascends}
 use Rattle.shape_segments.specs.declared.Segment.{Segment}
 use Rattle.shape_segments.specs.Segments.{empty_segment, contains_of, drawn_segment}
 use Rattle.path_segments.specs.declared.PathSegment.{PathSegment}
 use Rattle.path_segments.specs.Times.{segments_of}
 use Rattle.path_segments.specs.Segments.{empty_path, path_contains, path_segment}
-use Rattle.position.specs.declared.place.LoopPoint.{LoopPoint}
 use Rattle.settings.specs.declared.choices.LfoType.{LfoType}
 use Rattle.settings.specs.declared.choices.LfoType.TheVariants.{Drawn, Path, Lorenz, Rossler, SampleAndHold}
+use Rattle.voice.specs.declared.curve.CurveView.{CurveView}
 use Rattle.voice.specs.declared.generator.Kept.{Kept}
 
 -- n points at xs, ys: a shape's with their strengths and steps and the x of its loopback point, or a path's with their bends and times
@@ -20,9 +20,14 @@ pub record Curve : Type 0 where
   pub n : ℕ
   pub times : List Float
   pub closed : Bool
-  pub from : LoopPoint
+  pub from : Option Float
 
-abbrev pub curve_by : List Float → List Float → List Float → List Bool → ℕ → List Float → Bool → LoopPoint → Curve
+-- the curve that is lent
+abbrev pub curve_of : CurveView → Curve
+curve_of v =
+    record { xs = v.xs.now; ys = v.ys.now; es = v.es.now; steps = v.steps.now; n = v.n; times = v.times.now; closed = v.closed; from = v.from }
+
+abbrev pub curve_by : List Float → List Float → List Float → List Bool → ℕ → List Float → Bool → Option Float → Curve
 curve_by xs ys es steps n times closed from =
     record { xs = xs; ys = ys; es = es; steps = steps; n = n; times = times; closed = closed; from = from }
 

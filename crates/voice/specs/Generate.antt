@@ -1,15 +1,16 @@
 -- What a voice generates at a cycle count, as `stage` and `raw` of lfo/mod.rs have it. The segment is searched for anew at every sample; that the code may keep the last one is a law
 -- (`KeptFor` of specs/Curve). Assumes nothing.
-use Rattle.std.specs.Prelude.{◌≡◌, ℕ, Bool, true, false, ℤ, Float}
+use Rattle.std.specs.Prelude.{◌≡◌, ℕ, Bool, true, false, ℤ, Float, Option}
 use Rattle.std.specs.Float.{binary32}
 use Rattle.floatlaws.specs.Numbers.{f32_0, f32_1}
 use Rattle.floatlaws.specs.Narrow.{narrowed}
+use Rattle.chaos.specs.declared.law.Attractor.{Attractor}
+use Rattle.chaos.specs.declared.law.Attractor.TheVariants as Attractor
 use Rattle.chaos.specs.Advance.{advanced, output_of}
 use Rattle.shape_segments.specs.Segments.{curve_of, eval_of}
 use Rattle.path_segments.specs.declared.Xy.{Xy}
 use Rattle.path_segments.specs.Segments.{path_eval}
 use Rattle.position.specs.Position.{swung_by, position_of}
-use Rattle.position.specs.declared.place.LoopPoint.{LoopPoint}
 use Rattle.clock.specs.declared.anchor.Anchor.{Anchor}
 use Rattle.clock.specs.declared.block.Block.{Block}
 use Rattle.clock.specs.Anchor.{cycles_at}
@@ -30,19 +31,19 @@ unfoldable pub count_at : Mode → Block → Anchor → ℕ → Float
 count_at mode b a k = swung_by b.swing (cycles_at mode b a k)
 
 -- where in the shape a count falls, as an f32
-unfoldable pub place_of : Mode → Direction → LoopPoint → Float → Float
+unfoldable pub place_of : Mode → Direction → Option Float → Float → Float
 place_of mode direction from c = narrowed binary32 (position_of mode direction c from)
 
 -- ---- the source after a sample at the count c
 
-abbrev pub chaos_after : Bool → Mode → Block → Source → Float → Source
-chaos_after lorenz mode b s c = with_chaos s (advanced lorenz s.chaos (step_of mode c b.chaos_h) b.chaos_steps)
+abbrev pub chaos_after : Attractor → Mode → Block → Source → Float → Source
+chaos_after which mode b s c = with_chaos s (advanced which s.chaos (step_of mode c b.chaos_h) b.chaos_steps)
 
 unfoldable pub source_after : LfoType → Mode → Block → Source → Float → Source
 source_after Drawn mode b s c = s
 source_after Path mode b s c = s
-source_after Lorenz mode b s c = chaos_after true mode b s c
-source_after Rossler mode b s c = chaos_after false mode b s c
+source_after Lorenz mode b s c = chaos_after Attractor.Lorenz mode b s c
+source_after Rossler mode b s c = chaos_after Attractor.Rossler mode b s c
 source_after SampleAndHold mode b s c = sampled_of s (cycle_of mode c)
 
 -- ---- the raw X and Y, from the source after the sample
@@ -53,8 +54,8 @@ only_x x = record { x = x; y = f32_0 }
 unfoldable pub raw_of : LfoType → Mode → Direction → Curve → Source → Float → Xy
 raw_of Drawn mode direction q s c = let p = place_of mode direction q.from c in only_x (eval_of (drawn_at q p) p)
 raw_of Path mode direction q s c = let p = place_of mode direction q.from c in path_eval (path_at q p) p
-raw_of Lorenz mode direction q s c = only_x (output_of true s.chaos.x)
-raw_of Rossler mode direction q s c = only_x (output_of false s.chaos.x)
+raw_of Lorenz mode direction q s c = only_x (output_of Attractor.Lorenz s.chaos.x)
+raw_of Rossler mode direction q s c = only_x (output_of Attractor.Rossler s.chaos.x)
 raw_of SampleAndHold mode direction q s c = only_x (curve_of f32_0 s.held f32_0 f32_1)
 
 -- ---- the code's promises
@@ -73,10 +74,10 @@ shaped_at false s k seg path_seg p = drew_at s k seg p
 unfoldable pub held_at : Source → Kept → ℤ → Generated
 held_at s k cycle = record { source = sampled_of s cycle; kept = k; x = curve_of f32_0 (sampled_of s cycle).held f32_0 f32_1; y = f32_0 }
 
-unfoldable pub chaotic_at : Bool → Float → ℕ → Source → Kept → Generated
-chaotic_at lorenz h steps s k =
-    let after = advanced lorenz s.chaos h steps in
-    record { source = with_chaos s after; kept = k; x = output_of lorenz after.x; y = f32_0 }
+unfoldable pub chaotic_at : Attractor → Float → ℕ → Source → Kept → Generated
+chaotic_at which h steps s k =
+    let after = advanced which s.chaos h steps in
+    record { source = with_chaos s after; kept = k; x = output_of which after.x; y = f32_0 }
 
 pub record Generates (kind : LfoType) (mode : Mode) (direction : Direction) (q : Curve) (b : Block) (s : Source) (c : Float) (r : Generated) : Type 0 where
   pub source_is : r.source ≡ source_after kind mode b s c

@@ -1,12 +1,10 @@
 -- What a voice puts out: the start value, fade in and smoothing, as `post` of lfo/mod.rs has them. Assumes nothing.
-use Rattle.std.specs.Prelude.{ℕ, ◌+◌, ◌-◌, ◌^◌, Bool, false, cond, nat_le, nat_lt, Float}
+use Rattle.std.specs.Prelude.{ℕ, ◌+◌, ◌-◌, ◌^◌, Bool, false, cond, nat_le, nat_lt, Float, None, Option, Some}
 use Rattle.std.specs.Float.Ieee.{eq}
 use Rattle.floatlaws.specs.Numbers.{f32_0, f32_1}
 use Rattle.floatlaws.specs.Rounded.{◌+₃₂◌, ◌-₃₂◌, ◌×₃₂◌, to_f32}
 use Rattle.settings.specs.declared.choices.LfoType.{LfoType}
 use Rattle.settings.specs.declared.choices.LfoType.TheVariants.{Drawn, Path, Lorenz, Rossler, SampleAndHold}
-use Rattle.settings.specs.declared.record.Smooth.{Smooth}
-use Rattle.settings.specs.declared.record.Smooth.TheVariants as Smooth
 use Rattle.voice.specs.declared.output.Channel.{Channel}
 use Rattle.voice.specs.declared.output.Output.{Output}
 use Rattle.voice.specs.declared.output.Posted.{Posted}
@@ -33,22 +31,22 @@ captured_of capture raw c = cond capture (record { start = raw; smoothed = raw }
 unfoldable pub faded_of : Float → Float → Float → Float
 faded_of g raw start = cond (eq g f32_1) raw (raw ×₃₂ g +₃₂ start ×₃₂ (f32_1 -₃₂ g))
 
-unfoldable pub smoothed_of : Smooth → Float → Float → Float
-smoothed_of Smooth.Off state value = value
-smoothed_of (Smooth.By a) state value = state +₃₂ (value -₃₂ state) ×₃₂ a
+unfoldable pub smoothed_of : Option Float → Float → Float → Float
+smoothed_of None state value = value
+smoothed_of (Some a) state value = state +₃₂ (value -₃₂ state) ×₃₂ a
 
 -- an output after a sample, of its state there and its faded value
-abbrev pub put_out : Smooth → Channel → Float → Channel
+abbrev pub put_out : Option Float → Channel → Float → Channel
 put_out smooth from value = record { start = from.start; smoothed = smoothed_of smooth from.smoothed value }
 
 -- one output after a sample: its last value is what it puts out
-unfoldable pub post_of : Smooth → Float → Bool → Float → Channel → Channel
+unfoldable pub post_of : Option Float → Float → Bool → Float → Channel → Channel
 post_of smooth g capture raw c =
     let from = captured_of capture raw c in
     record { start = from.start; smoothed = smoothed_of smooth from.smoothed (faded_of g raw from.start) }
 
 -- only a path has a second output; of another type the second value is what was generated, 0
-unfoldable pub second_of : LfoType → Smooth → Float → Bool → Float → Channel → Channel
+unfoldable pub second_of : LfoType → Option Float → Float → Bool → Float → Channel → Channel
 second_of Path smooth g capture raw c = post_of smooth g capture raw c
 second_of Drawn smooth g capture raw c = c
 second_of Lorenz smooth g capture raw c = c
@@ -62,7 +60,7 @@ second_value Lorenz raw c = raw
 second_value Rossler raw c = raw
 second_value SampleAndHold raw c = raw
 
-unfoldable pub posted : LfoType → Smooth → Output → Float → Float → Posted
+unfoldable pub posted : LfoType → Option Float → Output → Float → Float → Posted
 posted kind smooth o x y =
     let g = gain_of o.t o.delay o.fade o.inv_fade in
     let after_x = post_of smooth g o.capture x o.x in

@@ -1,5 +1,5 @@
 -- What a voice generates from: random values held for a cycle, and the chaos state. Assumes nothing.
-use Rattle.std.specs.Prelude.{ℕ, ◌-◌, ◌^◌, Bool, true, false, cond, ℤ, pos, negsuc, ◌==◌, Float}
+use Rattle.std.specs.Prelude.{ℕ, ◌-◌, ◌^◌, Bool, true, false, cond, ℤ, pos, negsuc, ◌==◌, Float, None, Option, Some}
 use Rattle.std.specs.Float.{binary64}
 use Rattle.std.specs.Float.Ieee.{to_signed, le}
 use Rattle.floatlaws.specs.Numbers.{f32_0, f64_1}
@@ -7,6 +7,8 @@ use Rattle.floatlaws.specs.Whole.{whole_of, to_floor}
 use Rattle.random.specs.Mix.{mixed}
 use Rattle.random.specs.Draw.{drawn}
 use Rattle.chaos.specs.declared.law.State.{State}
+use Rattle.chaos.specs.declared.law.Attractor.{Attractor}
+use Rattle.chaos.specs.declared.law.Attractor.TheVariants as Attractor
 use Rattle.chaos.specs.Law.{law_of}
 use Rattle.chaos.specs.Start.{start_at}
 use Rattle.settings.specs.declared.choices.LfoType.{LfoType}
@@ -14,15 +16,13 @@ use Rattle.settings.specs.declared.choices.LfoType.TheVariants.{Drawn, Path, Lor
 use Rattle.settings.specs.declared.choices.Mode.{Mode}
 use Rattle.settings.specs.declared.choices.Mode.TheVariants.{Free, Restart, OneShot}
 use Rattle.voice.specs.declared.source.Source.{Source}
-use Rattle.voice.specs.declared.begun.MadeFor.{MadeFor}
-use Rattle.voice.specs.declared.begun.MadeFor.TheVariants as MadeFor
 
 -- no cycle: the next sample draws
 abbrev pub no_cycle : ℤ
 no_cycle = negsuc (2 ^ 63 - 1)
 
 unfoldable pub new_source : ℕ → Source
-new_source seed = record { rng = mixed seed; held = f32_0; cycle = no_cycle; chaos = (law_of true).start }
+new_source seed = record { rng = mixed seed; held = f32_0; cycle = no_cycle; chaos = (law_of Attractor.Lorenz).start }
 
 abbrev pub with_chaos : Source → State → Source
 with_chaos s state = record { rng = s.rng; held = s.held; cycle = s.cycle; chaos = state }
@@ -62,12 +62,13 @@ is_path Lorenz = false
 is_path Rossler = false
 is_path SampleAndHold = false
 
-abbrev pub is_lorenz : LfoType → Bool
-is_lorenz Drawn = false
-is_lorenz Path = false
-is_lorenz Lorenz = true
-is_lorenz Rossler = false
-is_lorenz SampleAndHold = false
+-- the attractor of a type that is one; of another it is not asked for
+abbrev pub attractor_of : LfoType → Attractor
+attractor_of Drawn = Attractor.Rossler
+attractor_of Path = Attractor.Rossler
+attractor_of Lorenz = Attractor.Lorenz
+attractor_of Rossler = Attractor.Rossler
+attractor_of SampleAndHold = Attractor.Rossler
 
 -- ---- as a stretch begins: an attractor that the voice did not last play starts at its start point
 
@@ -78,21 +79,21 @@ kind_number Lorenz = 2
 kind_number Rossler = 3
 kind_number SampleAndHold = 4
 
-abbrev pub is_made_for : MadeFor → LfoType → Bool
-is_made_for MadeFor.None kind = false
-is_made_for (MadeFor.For last) kind = kind_number last == kind_number kind
+abbrev pub is_made_for : Option LfoType → LfoType → Bool
+is_made_for None kind = false
+is_made_for (Some last) kind = kind_number last == kind_number kind
 
 -- an attractor's start point, and the state `cycles` on from it; another type leaves the state as it is
 unfoldable pub attractor_start : LfoType → State → State
 attractor_start Drawn s = s
 attractor_start Path s = s
-attractor_start Lorenz s = (law_of true).start
-attractor_start Rossler s = (law_of false).start
+attractor_start Lorenz s = (law_of Attractor.Lorenz).start
+attractor_start Rossler s = (law_of Attractor.Rossler).start
 attractor_start SampleAndHold s = s
 
 unfoldable pub attractor_at : LfoType → Float → State → State
 attractor_at Drawn cycles s = s
 attractor_at Path cycles s = s
-attractor_at Lorenz cycles s = start_at true cycles
-attractor_at Rossler cycles s = start_at false cycles
+attractor_at Lorenz cycles s = start_at Attractor.Lorenz cycles
+attractor_at Rossler cycles s = start_at Attractor.Rossler cycles
 attractor_at SampleAndHold cycles s = s

@@ -1,5 +1,5 @@
 -- A new voice, a voice as a stretch begins, and a voice restarted, as `LfoVoice::new`, `begin` and `trigger` of lfo/mod.rs have them. Assumes nothing.
-use Rattle.std.specs.Prelude.{ℕ, true, cond, nat_lt, Float}
+use Rattle.std.specs.Prelude.{ℕ, true, cond, nat_lt, Float, None, Option, Some}
 use Rattle.std.specs.Float.{binary32}
 use Rattle.floatlaws.specs.Numbers.{f32_0, f64_1}
 use Rattle.floatlaws.specs.Rounded.{◌÷₆₄◌, to_f64}
@@ -12,8 +12,6 @@ use Rattle.settings.specs.declared.choices.LfoType.{LfoType}
 use Rattle.settings.specs.declared.choices.Mode.{Mode}
 use Rattle.settings.specs.declared.choices.Mode.TheVariants.{Free, Restart, OneShot}
 use Rattle.settings.specs.declared.record.Settings.{Settings}
-use Rattle.voice.specs.declared.begun.MadeFor.{MadeFor}
-use Rattle.voice.specs.declared.begun.MadeFor.TheVariants as MadeFor
 use Rattle.voice.specs.declared.source.Source.{Source}
 use Rattle.voice.specs.declared.output.Output.{Output}
 use Rattle.voice.specs.declared.Voice.{Voice}
@@ -21,12 +19,12 @@ use Rattle.voice.specs.Source.{no_cycle, new_source, is_made_for, attractor_star
 use Rattle.voice.specs.Output.{new_output}
 
 unfoldable pub new_voice : ℕ → Voice
-new_voice seed = record { anchor = new_anchor; source = new_source seed; output = new_output; made_for = MadeFor.None }
+new_voice seed = record { anchor = new_anchor; source = new_source seed; output = new_output; made_for = None }
 
 -- ---- as a stretch begins at sample `from` of a block
 
 -- an attractor that the voice did not last begin for starts at its start point
-unfoldable pub begun_source : LfoType → MadeFor → Source → Source
+unfoldable pub begun_source : LfoType → Option LfoType → Source → Source
 begun_source kind made s = cond (is_made_for made kind) s (with_chaos s (attractor_start kind s.chaos))
 
 -- in Free mode the player's clock counts, and the anchor stays
@@ -41,7 +39,7 @@ begun_voice s b from v =
       anchor = begun_anchor s.mode v.anchor b from;
       source = begun_source s.kind v.made_for v.source;
       output = v.output;
-      made_for = MadeFor.For s.kind;
+      made_for = Some s.kind;
     }
 
 -- ---- at a restart

@@ -1,18 +1,16 @@
 // What a voice generates at a cycle count: `stage` and `raw` of lfo/mod.rs, without delay and fade in.
 ghost use Rattle.std.specs.Prelude.{◌≡◌, ◌+◌, ◌^◌, ◌<◌, ◌≤◌};
-ghost use Rattle.shape_segments.specs.Segments.{drawn_segment};
-ghost use Rattle.path_segments.specs.Segments.{path_segment};
 ghost use Rattle.clock.specs.Block.{free_count};
-ghost use Rattle.voice.specs.Source.{cycle_of, step_of, is_path, is_lorenz};
-ghost use Rattle.voice.specs.Curve.{curve_by, void_kept, HoldsDrawn, HoldsPath, HoldsFor, Searchable, KeptFor};
+ghost use Rattle.voice.specs.Source.{cycle_of, step_of, is_path, attractor_of};
+ghost use Rattle.voice.specs.Curve.{curve_of, drawn_at, path_at, void_kept, HoldsDrawn, HoldsPath, HoldsFor, Searchable, KeptFor};
 ghost use Rattle.voice.specs.Generate.{count_at, place_of, drew_at, traced_at, shaped_at, held_at, chaotic_at, Generates};
 
+use super::curve::CurveView;
 use super::source::Source;
+use chaos::Attractor;
 use clock::{Anchor, Block};
-use path_segments::{MAX_TIMES, PathSegment};
-use points::MAX_POINTS;
-use position::{LoopPoint, Swing};
-use settings::{Direction, LfoType, Mode};
+use path_segments::PathSegment;
+use settings::{Direction, LfoType, Mode, Settings};
 use shape_segments::Segment;
 
 // The segments that the last search found.
@@ -27,14 +25,15 @@ impl Kept {
     pub fn void() -> Self
         ensures { result ≡ void_kept }
     {
-        let seg = Segment::default();
-        let path_seg = PathSegment::default();
-        Kept { seg, path_seg }
+        Kept {
+            seg: Segment::default(),
+            path_seg: PathSegment::default(),
+        }
     }
 }
 
 // The source and the kept segments after a sample, and its raw X and Y.
-#[derive(Drop)]
+#[derive(Clone, Copy)]
 pub struct Generated {
     pub source: Source,
     pub kept: Kept,
@@ -50,133 +49,67 @@ pub fn count(mode: Mode, block: Block, anchor: Anchor, k: u64) -> f64
     let c = clock::cycles(mode, block, anchor, k);
     let swing = block.swing;
     match swing {
-        Swing::Off => c,
-        Swing::First(first) => position::swung(c, first),
+        None => c,
+        Some(first) => position::swung(c, first),
     }
 }
 
 // Where in the shape a count falls.
-fn place(mode: Mode, direction: Direction, from: LoopPoint, c: f64) -> f32
+#[tactic(auto, unfolding(crate::specs::Generate::place_of))]
+fn place(mode: Mode, direction: Direction, from: Option<f64>, c: f64) -> f32
     ensures { result ≡ place_of mode direction from c }
 {
     narrow::f64_to_f32(position::position(mode, direction, c, from))
 }
 
-// The segment of the shape at p: the kept one where it holds p.
-fn segment_at<'a>(
-    before: Segment,
-    xs: &'a [f32; MAX_POINTS],
-    ys: &'a [f32; MAX_POINTS],
-    es: &'a [f32; MAX_POINTS],
-    steps: &'a [bool; MAX_POINTS],
-    n: usize,
-    p: f32,
-) -> Segment
-    requires { (n ≤ 64) × HoldsDrawn (drawn_segment xs.now ys.now es.now steps.now n) before }
-    ensures { result ≡ drawn_segment xs.now ys.now es.now steps.now n p }
-{
-    if before.contains(p) {
-        return before;
-    }
-    shape_segments::drawn_segment(xs, ys, es, steps, n, p)
-}
-
 // The drawn shape at p.
-fn drawn<'a>(
-    s: Source,
-    kept: Kept,
-    xs: &'a [f32; MAX_POINTS],
-    ys: &'a [f32; MAX_POINTS],
-    es: &'a [f32; MAX_POINTS],
-    steps: &'a [bool; MAX_POINTS],
-    n: usize,
-    p: f32,
-) -> Generated
-    requires { (n ≤ 64) × HoldsDrawn (drawn_segment xs.now ys.now es.now steps.now n) kept.seg }
-    ensures { result ≡ drew_at s kept (drawn_segment xs.now ys.now es.now steps.now n p) p }
+fn drawn(s: Source, kept: Kept, curve: CurveView, p: f32) -> Generated
+    requires { (curve.n ≤ 64) × HoldsDrawn (drawn_at (curve_of curve)) kept.seg }
+    ensures { result ≡ drew_at s kept (drawn_at (curve_of curve.entry) p) p }
 {
-    let before = kept.seg;
-    let seg = segment_at(before, xs, ys, es, steps, n, p);
-    let path_seg = kept.path_seg;
+    let seg = curve.drawn_at(kept.seg, p);
     Generated {
         source: s,
-        kept: Kept { seg, path_seg },
+        kept: Kept {
+            seg,
+            path_seg: kept.path_seg,
+        },
         x: seg.eval(p),
         y: 0.0,
     }
 }
 
-// The segment of the path at p: the kept one where it holds p.
-fn path_segment_at<'a>(
-    before: PathSegment,
-    xs: &'a [f32; MAX_POINTS],
-    ys: &'a [f32; MAX_POINTS],
-    bends: &'a [f32; MAX_POINTS],
-    times: &'a [f32; MAX_TIMES],
-    len: usize,
-    closed: bool,
-    p: f32,
-) -> PathSegment
-    requires { (len ≤ 64) × HoldsPath (path_segment xs.now ys.now bends.now times.now len closed) before }
-    ensures { result ≡ path_segment xs.now ys.now bends.now times.now len closed p }
-{
-    if before.contains(p) {
-        return before;
-    }
-    path_segments::path_segment(xs, ys, bends, times, len, closed, p)
-}
-
 // The path at p.
-fn traced<'a>(
-    s: Source,
-    kept: Kept,
-    xs: &'a [f32; MAX_POINTS],
-    ys: &'a [f32; MAX_POINTS],
-    bends: &'a [f32; MAX_POINTS],
-    times: &'a [f32; MAX_TIMES],
-    len: usize,
-    closed: bool,
-    p: f32,
-) -> Generated
-    requires { (len ≤ 64) × HoldsPath (path_segment xs.now ys.now bends.now times.now len closed) kept.path_seg }
-    ensures { result ≡ traced_at s kept (path_segment xs.now ys.now bends.now times.now len closed p) p }
+fn traced(s: Source, kept: Kept, curve: CurveView, p: f32) -> Generated
+    requires { (curve.n ≤ 64) × HoldsPath (path_at (curve_of curve)) kept.path_seg }
+    ensures { result ≡ traced_at s kept (path_at (curve_of curve.entry) p) p }
 {
-    let before = kept.path_seg;
-    let path_seg = path_segment_at(before, xs, ys, bends, times, len, closed, p);
-    let seg = kept.seg;
+    let path_seg = curve.path_at(kept.path_seg, p);
     let at = path_seg.eval(p);
     Generated {
         source: s,
-        kept: Kept { seg, path_seg },
+        kept: Kept {
+            seg: kept.seg,
+            path_seg,
+        },
         x: at.x,
         y: at.y,
     }
 }
 
-// The path or the drawn shape at p. For a shape `es` are the strengths, for a path the bends.
-fn shaped<'a>(
-    path: bool,
-    s: Source,
-    kept: Kept,
-    xs: &'a [f32; MAX_POINTS],
-    ys: &'a [f32; MAX_POINTS],
-    es: &'a [f32; MAX_POINTS],
-    steps: &'a [bool; MAX_POINTS],
-    n: usize,
-    times: &'a [f32; MAX_TIMES],
-    closed: bool,
-    p: f32,
-) -> Generated
-    requires { (n ≤ 64) × HoldsFor path (drawn_segment xs.now ys.now es.now steps.now n) (path_segment xs.now ys.now es.now times.now n closed) kept }
-    ensures { result ≡ shaped_at path s kept (drawn_segment xs.now ys.now es.now steps.now n p) (path_segment xs.now ys.now es.now times.now n closed p) p }
+// The path or the drawn shape at p.
+fn shaped(path: bool, s: Source, kept: Kept, curve: CurveView, p: f32) -> Generated
+    requires { (curve.n ≤ 64) × HoldsFor path (drawn_at (curve_of curve)) (path_at (curve_of curve)) kept }
+    ensures { let q = curve_of curve.entry in result ≡ shaped_at path s kept (drawn_at q p) (path_at q p) p }
 {
     if path {
-        return traced(s, kept, xs, ys, es, times, n, closed, p);
+        return traced(s, kept, curve, p);
     }
-    drawn(s, kept, xs, ys, es, steps, n, p)
+    drawn(s, kept, curve, p)
 }
 
 // The cycle of a count; a One-shot keeps its first value.
+#[tactic(auto, unfolding(crate::specs::Source::cycle_of))]
 fn cycle(mode: Mode, c: f64) -> i64
     ensures { result ≡ cycle_of mode c }
 {
@@ -188,6 +121,7 @@ fn cycle(mode: Mode, c: f64) -> i64
 }
 
 // One random value a cycle.
+#[tactic(auto, unfolding(crate::specs::Generate::held_at))]
 fn held(s: Source, kept: Kept, cycle: i64) -> Generated
     ensures { result ≡ held_at s kept cycle }
 {
@@ -201,6 +135,7 @@ fn held(s: Source, kept: Kept, cycle: i64) -> Generated
 }
 
 // The chaos step: a One-shot stands still from one cycle on.
+#[tactic(auto, unfolding(crate::specs::Source::step_of))]
 fn step(mode: Mode, c: f64, h: f32) -> f32
     ensures { result ≡ step_of mode c h }
 {
@@ -220,89 +155,60 @@ fn step(mode: Mode, c: f64, h: f32) -> f32
 pub fn is_path(kind: LfoType) -> bool
     ensures { result ≡ is_path kind }
 {
-    match kind {
-        LfoType::Drawn => false,
-        LfoType::Path => true,
-        LfoType::Lorenz => false,
-        LfoType::Rossler => false,
-        LfoType::SampleAndHold => false,
-    }
+    matches!(kind, LfoType::Path)
 }
 
-fn is_lorenz(kind: LfoType) -> bool
-    ensures { result ≡ is_lorenz kind }
+// The attractor of a type that is one.
+fn attractor_of(kind: LfoType) -> Attractor
+    ensures { result ≡ attractor_of kind }
 {
     match kind {
-        LfoType::Drawn => false,
-        LfoType::Path => false,
-        LfoType::Lorenz => true,
-        LfoType::Rossler => false,
-        LfoType::SampleAndHold => false,
+        LfoType::Lorenz => Attractor::Lorenz,
+        _ => Attractor::Rossler,
     }
 }
 
 // An attractor, `steps` Heun steps of `h` on.
-fn chaotic(lorenz: bool, h: f32, steps: u32, s: Source, kept: Kept) -> Generated
-    ensures { result ≡ chaotic_at lorenz h steps s kept }
+#[tactic(auto, unfolding(crate::specs::Generate::chaotic_at))]
+fn chaotic(attractor: Attractor, h: f32, steps: u32, s: Source, kept: Kept) -> Generated
+    ensures { result ≡ chaotic_at attractor h steps s kept }
 {
-    let before = s.chaos;
-    let chaos = chaos::advance(lorenz, before, h, steps);
-    let source = Source {
-        rng: s.rng,
-        held: s.held,
-        cycle: s.cycle,
-        chaos,
-    };
+    let chaos = chaos::advance(attractor, s.chaos, h, steps);
     Generated {
-        source,
+        source: Source { chaos, ..s },
         kept,
-        x: chaos::output(lorenz, chaos.x),
+        x: chaos::output(attractor, chaos.x),
         y: 0.0,
     }
 }
 
-// The sample at the count c. The points' arrays are lent: for a shape `es` are the strengths, for a path the bends.
-pub fn generate<'a>(
-    kind: LfoType,
-    mode: Mode,
-    direction: Direction,
+// The sample at the count c.
+pub fn generate(
+    settings: Settings,
     block: Block,
     s: Source,
     kept: Kept,
-    xs: &'a [f32; MAX_POINTS],
-    ys: &'a [f32; MAX_POINTS],
-    es: &'a [f32; MAX_POINTS],
-    steps: &'a [bool; MAX_POINTS],
-    n: usize,
-    times: &'a [f32; MAX_TIMES],
-    closed: bool,
-    from: LoopPoint,
+    curve: CurveView,
     c: f64,
 ) -> Generated
-    requires { Searchable kind (curve_by xs.now ys.now es.now steps.now n times.now closed from) × KeptFor kind (curve_by xs.now ys.now es.now steps.now n times.now closed from) kept }
-    ensures { Generates kind mode direction (curve_by xs.now ys.now es.now steps.now n times.now closed from) block s c result }
+    requires { Searchable settings.kind (curve_of curve) × KeptFor settings.kind (curve_of curve) kept }
+    ensures { Generates settings.kind settings.mode settings.direction (curve_of curve.entry) block s c result }
 {
-    match kind {
+    match settings.kind {
         LfoType::Drawn | LfoType::Path => shaped(
-            is_path(kind),
+            is_path(settings.kind),
             s,
             kept,
-            xs,
-            ys,
-            es,
-            steps,
-            n,
-            times,
-            closed,
-            place(mode, direction, from, c),
+            curve,
+            place(settings.mode, settings.direction, curve.from, c),
         ),
         LfoType::Lorenz | LfoType::Rossler => chaotic(
-            is_lorenz(kind),
-            step(mode, c, block.chaos_h),
+            attractor_of(settings.kind),
+            step(settings.mode, c, block.chaos_h),
             block.chaos_steps,
             s,
             kept,
         ),
-        LfoType::SampleAndHold => held(s, kept, cycle(mode, c)),
+        LfoType::SampleAndHold => held(s, kept, cycle(settings.mode, c)),
     }
 }

@@ -6,6 +6,7 @@
 #![tactic(auto)]
 
 mod begun;
+mod curve;
 mod generator;
 mod output;
 mod restart;
@@ -14,11 +15,13 @@ mod source;
 ghost use Rattle.std.specs.Prelude.{◌≡◌};
 ghost use Rattle.voice.specs.Voice.{new_voice};
 
-pub use begun::{MadeFor, begin};
+pub use begun::begin;
 use clock::Anchor;
+pub use curve::CurveView;
 pub use generator::{Generated, Kept, count, generate, is_path};
 pub use output::{Channel, Output, Posted, put};
 pub use restart::trigger;
+use settings::LfoType;
 pub use source::Source;
 
 // One voice's state for an LFO slot.
@@ -28,22 +31,20 @@ pub struct Voice {
     pub source: Source,
     pub output: Output,
     // The type that it last began a stretch for, if any.
-    pub made_for: MadeFor,
+    pub made_for: Option<LfoType>,
 }
 
 impl Voice {
     // A voice whose random values come from `seed`, not yet restarted: it runs from the start of the cycle, at full level.
+    #[tactic(auto, unfolding(crate::specs::Voice::new_voice))]
     pub fn new(seed: u64) -> Self
         ensures { result ≡ new_voice seed }
     {
-        let anchor = Anchor::new();
-        let source = Source::new(seed);
-        let output = Output::new();
         Voice {
-            anchor,
-            source,
-            output,
-            made_for: MadeFor::None,
+            anchor: Anchor::new(),
+            source: Source::new(seed),
+            output: Output::new(),
+            made_for: None,
         }
     }
 }

@@ -3,7 +3,8 @@ ghost use Rattle.std.specs.Prelude.{◌≡◌, if◌then◌else◌};
 ghost use Rattle.voice.specs.Source.{is_path};
 ghost use Rattle.voice.specs.Output.{new_output, gain_of, later_of, captured_of, faded_of, smoothed_of, put_out, second_value, posted};
 
-use settings::{LfoType, Smooth};
+use super::generator::is_path;
+use settings::LfoType;
 
 // One output: the value from which it fades in, and its last value, from which it is smoothed.
 #[derive(Clone, Copy)]
@@ -47,31 +48,33 @@ impl Output {
             },
         }
     }
+
+    // The fade-in gain, 0 to 1.
+    #[tactic(auto, unfolding(crate::specs::Output::gain_of))]
+    fn gain(self) -> f32
+        ensures { result ≡ gain_of self.t self.delay self.fade self.inv_fade }
+    {
+        if self.t < self.delay {
+            return 0.0;
+        }
+        let since = self.t - self.delay;
+        if self.fade <= since {
+            return 1.0;
+        }
+        narrow::u64_to_f32(since) * self.inv_fade
+    }
 }
 
 // The output after a sample, and the two values.
-#[derive(Drop)]
+#[derive(Clone, Copy)]
 pub struct Posted {
     pub output: Output,
     pub x: f32,
     pub y: f32,
 }
 
-// The fade-in gain, 0 to 1, at sample `t` since the restart.
-fn gain(t: u64, delay: u64, fade: u64, inv_fade: f32) -> f32
-    ensures { result ≡ gain_of t delay fade inv_fade }
-{
-    if t < delay {
-        return 0.0;
-    }
-    let since = t - delay;
-    if fade <= since {
-        return 1.0;
-    }
-    narrow::u64_to_f32(since) * inv_fade
-}
-
 // One sample later; the largest number stays.
+#[tactic(auto, unfolding(crate::specs::Output::later_of))]
 fn later(t: u64) -> u64
     ensures { result ≡ later_of t }
 {
@@ -82,6 +85,7 @@ fn later(t: u64) -> u64
 }
 
 // The channel at a sample: the first after a restart sets the start value, and smoothing starts there.
+#[tactic(auto, unfolding(crate::specs::Output::captured_of))]
 fn captured(capture: bool, raw: f32, c: Channel) -> Channel
     ensures { result ≡ captured_of capture raw c }
 {
@@ -95,13 +99,14 @@ fn captured(capture: bool, raw: f32, c: Channel) -> Channel
 }
 
 // Both outputs before smoothing.
-#[derive(Drop)]
+#[derive(Clone, Copy)]
 struct Levels {
     x: f32,
     y: f32,
 }
 
 // From the start values to the raw values by the gain, with one test for both.
+#[tactic(auto, unfolding(crate::specs::Output::faded_of))]
 fn faded(g: f32, x: f32, start_x: f32, y: f32, start_y: f32) -> Levels
     ensures { (result.x ≡ faded_of g x start_x) × (result.y ≡ faded_of g y start_y) }
 {
@@ -115,17 +120,18 @@ fn faded(g: f32, x: f32, start_x: f32, y: f32, start_y: f32) -> Levels
 }
 
 // The one-pole smoothing, if any.
-fn smoothed(smooth: Smooth, state: f32, value: f32) -> f32
+#[tactic(auto, unfolding(crate::specs::Output::smoothed_of))]
+fn smoothed(smooth: Option<f32>, state: f32, value: f32) -> f32
     ensures { result ≡ smoothed_of smooth state value }
 {
     match smooth {
-        Smooth::Off => value,
-        Smooth::By(a) => state + (value - state) * a,
+        None => value,
+        Some(a) => state + (value - state) * a,
     }
 }
 
 // One output after a sample, of its state there and its faded value.
-fn post(smooth: Smooth, from: Channel, value: f32) -> Channel
+fn post(smooth: Option<f32>, from: Channel, value: f32) -> Channel
     ensures { result ≡ put_out smooth from value }
 {
     Channel {
@@ -135,56 +141,44 @@ fn post(smooth: Smooth, from: Channel, value: f32) -> Channel
 }
 
 // The second output: of a path as the first, and of another type as it was.
-fn second(kind: LfoType, smooth: Smooth, from: Channel, value: f32, c: Channel) -> Channel
+fn second(kind: LfoType, smooth: Option<f32>, from: Channel, value: f32, c: Channel) -> Channel
     ensures { result ≡ (if is_path kind then put_out smooth from value else c) }
 {
-    match kind {
-        LfoType::Drawn => c,
-        LfoType::Path => post(smooth, from, value),
-        LfoType::Lorenz => c,
-        LfoType::Rossler => c,
-        LfoType::SampleAndHold => c,
+    if is_path(kind) {
+        return post(smooth, from, value);
     }
+    c
 }
 
 // The second value: of a path what was put out, and of another type what was generated.
 fn second_value(kind: LfoType, raw: f32, c: Channel) -> f32
     ensures { result ≡ second_value kind raw c }
 {
-    match kind {
-        LfoType::Drawn => raw,
-        LfoType::Path => c.smoothed,
-        LfoType::Lorenz => raw,
-        LfoType::Rossler => raw,
-        LfoType::SampleAndHold => raw,
+    if is_path(kind) {
+        return c.smoothed;
     }
+    raw
 }
 
 // The start value, fade in and smoothing of both outputs for a sample whose generator gave `x` and `y`.
-pub fn put(kind: LfoType, smooth: Smooth, o: Output, x: f32, y: f32) -> Posted
+pub fn put(kind: LfoType, smooth: Option<f32>, o: Output, x: f32, y: f32) -> Posted
     ensures { result ≡ posted kind smooth o x y }
 {
-    let g = gain(o.t, o.delay, o.fade, o.inv_fade);
-    let before_x = o.x;
-    let before_y = o.y;
-    let from_x = captured(o.capture, x, before_x);
-    let from_y = captured(o.capture, y, before_y);
+    let g = o.gain();
+    let from_x = captured(o.capture, x, o.x);
+    let from_y = captured(o.capture, y, o.y);
     let level = faded(g, x, from_x.start, y, from_y.start);
     let after_x = post(smooth, from_x, level.x);
-    let after_y = second(kind, smooth, from_y, level.y, before_y);
-    let value_y = second_value(kind, y, after_y);
-    let output = Output {
-        t: later(o.t),
-        delay: o.delay,
-        fade: o.fade,
-        inv_fade: o.inv_fade,
-        capture: false,
-        x: after_x,
-        y: after_y,
-    };
+    let after_y = second(kind, smooth, from_y, level.y, o.y);
     Posted {
-        output,
+        output: Output {
+            t: later(o.t),
+            capture: false,
+            x: after_x,
+            y: after_y,
+            ..o
+        },
         x: after_x.smoothed,
-        y: value_y,
+        y: second_value(kind, y, after_y),
     }
 }

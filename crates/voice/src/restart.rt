@@ -6,24 +6,26 @@ ghost use Rattle.voice.specs.Voice.{restarted_anchor, fresh_source, restarted_so
 use super::Voice;
 use super::output::Output;
 use super::source::Source;
-use chaos::State;
+use chaos::{Attractor, State};
 use clock::{Anchor, Block};
 use settings::{LfoType, Mode, Settings};
 
 // An attractor's state `cycles` on from its start point; for another type, `s`.
+#[tactic(auto, unfolding(crate::specs::Source::attractor_at))]
 fn attractor_at(kind: LfoType, cycles: f64, s: State) -> State
     ensures { result ≡ attractor_at kind cycles s }
 {
     match kind {
         LfoType::Drawn => s,
         LfoType::Path => s,
-        LfoType::Lorenz => chaos::start_at(true, cycles),
-        LfoType::Rossler => chaos::start_at(false, cycles),
+        LfoType::Lorenz => chaos::start_at(Attractor::Lorenz, cycles),
+        LfoType::Rossler => chaos::start_at(Attractor::Rossler, cycles),
         LfoType::SampleAndHold => s,
     }
 }
 
 // From Phase, or where Song lock grounds it; in Free mode the anchor stays.
+#[tactic(auto, unfolding(crate::specs::Voice::restarted_anchor))]
 fn restarted_anchor(mode: Mode, anchor: Anchor, block: Block) -> Anchor
     ensures { result ≡ restarted_anchor mode anchor block }
 {
@@ -38,17 +40,15 @@ fn restarted_anchor(mode: Mode, anchor: Anchor, block: Block) -> Anchor
 fn fresh_source(kind: LfoType, phase: f64, s: Source) -> Source
     ensures { result ≡ fresh_source kind phase s }
 {
-    let before = s.chaos;
-    let chaos = attractor_at(kind, phase, before);
     Source {
-        rng: s.rng,
-        held: s.held,
         cycle: i64::MIN,
-        chaos,
+        chaos: attractor_at(kind, phase, s.chaos),
+        ..s
     }
 }
 
 // In Free mode the source stays.
+#[tactic(auto, unfolding(crate::specs::Voice::restarted_source))]
 fn restarted_source(mode: Mode, kind: LfoType, phase: f64, s: Source) -> Source
     ensures { result ≡ restarted_source mode kind phase s }
 {
@@ -60,6 +60,7 @@ fn restarted_source(mode: Mode, kind: LfoType, phase: f64, s: Source) -> Source
 }
 
 // 1 / Fade in, or 0 for none.
+#[tactic(auto, unfolding(crate::specs::Voice::inverse_of))]
 fn inverse(fade: u64) -> f32
     ensures { result ≡ inverse_of fade }
 {
@@ -70,46 +71,34 @@ fn inverse(fade: u64) -> f32
 }
 
 // Delay and Fade in start, and the next sample sets the start values.
+#[tactic(auto, unfolding(crate::specs::Voice::restarted_output))]
 fn restarted_output(delay: u64, fade: u64, o: Output) -> Output
     ensures { result ≡ restarted_output delay fade o }
 {
-    let x = o.x;
-    let y = o.y;
     Output {
         t: 0,
         delay,
         fade,
         inv_fade: inverse(fade),
         capture: true,
-        x,
-        y,
+        ..o
     }
 }
 
 // Starts a voice for a note-on in a block: it restarts from Phase, unless the mode is Free or Song lock grounds it in the transport, and its
 // Delay and Fade in start.
+#[tactic(auto, unfolding(crate::specs::Voice::triggered_voice))]
 pub fn trigger(s: Settings, block: Block, v: Voice) -> Voice
     ensures { result ≡ triggered_voice s block v }
 {
-    let mode = s.mode;
-    let kind = s.kind;
-    let before_anchor = v.anchor;
-    let before_source = v.source;
-    let before_output = v.output;
-    let anchor = restarted_anchor(mode, before_anchor, block);
-    let source = restarted_source(mode, kind, block.phase, before_source);
-    let delay = s.delay;
-    let fade_in = s.fade_in;
-    let output = restarted_output(
-        clock::samples(delay, block),
-        clock::samples(fade_in, block),
-        before_output,
-    );
-    let made_for = v.made_for;
     Voice {
-        anchor,
-        source,
-        output,
-        made_for,
+        anchor: restarted_anchor(s.mode, v.anchor, block),
+        source: restarted_source(s.mode, s.kind, block.phase, v.source),
+        output: restarted_output(
+            clock::samples(s.delay, block),
+            clock::samples(s.fade_in, block),
+            v.output,
+        ),
+        made_for: v.made_for,
     }
 }

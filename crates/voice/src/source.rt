@@ -2,7 +2,7 @@
 ghost use Rattle.std.specs.Prelude.{◌≡◌};
 ghost use Rattle.voice.specs.Source.{new_source, same_cycle, sampled_of};
 
-use chaos::{Law, State};
+use chaos::{Attractor, Law, State};
 
 #[derive(Clone, Copy)]
 pub struct Source {
@@ -23,20 +23,20 @@ fn same_cycle(a: i64, b: i64) -> bool
 
 impl Source {
     // Random values from `seed`.
+    #[tactic(auto, unfolding(crate::specs::Source::new_source))]
     pub fn new(seed: u64) -> Self
         ensures { result ≡ new_source seed }
     {
-        let law = Law::of(true);
-        let chaos = law.start;
         Source {
             rng: random::mix(seed),
             held: 0.0,
             cycle: i64::MIN,
-            chaos,
+            chaos: Law::of(Attractor::Lorenz).start,
         }
     }
 
     // At a cycle: a new cycle draws a value.
+    #[tactic(auto, unfolding(crate::specs::Source::sampled_of))]
     pub fn sampled(self, cycle: i64) -> Self
         ensures { result ≡ sampled_of self cycle }
     {
@@ -44,12 +44,11 @@ impl Source {
             return self;
         }
         let d = random::xorshift::draw(self.rng);
-        let chaos = self.chaos;
         Source {
             rng: d.word,
             held: d.value,
             cycle,
-            chaos,
+            ..self
         }
     }
 }

@@ -11,7 +11,7 @@ use Rattle.floatlaws.specs.Numbers.{f32_½}
 use Rattle.listlaws.specs.Tables.{tabulate}
 use Rattle.settings.specs.declared.choices.LfoType.TheVariants.{Drawn, SampleAndHold}
 use Rattle.settings.specs.Times.{rate_at, span_at, scale_at, clamped_rate, clamped_span}
-use Rattle.settings.specs.Codes.{smooth_at, with_spans, with_switches, settings_at, transport_at, settings_known, transport_known}
+use Rattle.settings.specs.Codes.{smooth_at, settings_at, transport_at, settings_known, transport_known}
 use Rattle.settings.specs.Records.{clamped_settings}
 use Rattle.questions.specs.Tests.{settings_finite, transport_finite, transport_in}
 use Rattle.questions.specs.Questions.{first_no, settings_questions, bus_questions, phase_questions}
@@ -52,19 +52,19 @@ abbrev rest₂ : List Call
 rest₂ = trigger 0 1 ∷ block here 0 room room ∷ block there 1 room room ∷ phase 1 here ∷ trigger 2 3 ∷ block here 4 room room ∷ settings drawn 1 ∷ []
 
 pub restart₁ : RestartOf 0 two
-unfolding after playing played_record step accepted answer questions page_questions trigger_questions voice_phase_questions play_questions made player.made new_state count_for make_questions new_ensemble played_ensemble asked_ensemble greatest tabulate player.accepted with_settings with_bus first_no settings_questions bus_questions phase_questions settings_known settings_finite transport_known transport_finite transport_in settings_at with_switches with_spans rate_at span_at smooth_at transport_at scale_at lib.Ieee.neg le lt eq of_bits
+unfolding after playing played_record step accepted answer questions page_questions trigger_questions voice_phase_questions play_questions made player.made new_state count_for make_questions new_ensemble played_ensemble asked_ensemble greatest tabulate player.accepted with_settings with_bus first_no settings_questions bus_questions phase_questions settings_known settings_finite transport_known transport_finite transport_in settings_at rate_at span_at smooth_at transport_at scale_at lib.Ieee.neg le lt eq of_bits
 restart₁ = record { before = before₁; transport = here; frames = 4; x = room; y = room; rest = rest₁; accepted = refl; frame = 1; waits = refl }
 
 -- beyond the block's end
 pub restart₂ : RestartOf 2 served
-unfolding after playing played_record step accepted answer questions page_questions trigger_questions voice_phase_questions play_questions made player.made new_state count_for make_questions new_ensemble played_ensemble asked_ensemble greatest tabulate player.accepted with_settings with_bus first_no settings_questions bus_questions phase_questions settings_known settings_finite transport_known transport_finite transport_in settings_at with_switches with_spans rate_at span_at smooth_at transport_at scale_at lib.Ieee.neg le lt eq of_bits
+unfolding after playing played_record step accepted answer questions page_questions trigger_questions voice_phase_questions play_questions made player.made new_state count_for make_questions new_ensemble played_ensemble asked_ensemble greatest tabulate player.accepted with_settings with_bus first_no settings_questions bus_questions phase_questions settings_known settings_finite transport_known transport_finite transport_in settings_at rate_at span_at smooth_at transport_at scale_at lib.Ieee.neg le lt eq of_bits
 restart₂ = record { before = before₂; transport = there; frames = 0; x = room; y = room; rest = rest₂; accepted = refl; frame = 7; waits = refl }
 
 not_held : Drawn ≡ SampleAndHold → ⊥
 not_held e = let z : ◌≡◌ {A = ℕ} 0 1 = cc in omega arith
 
 met : Hypotheses (at_restart restart₁) (at_restart restart₂) (transport_fields here)
-unfolding restart₁ restart₂ throughout window after playing played_record clamped_settings clamped_rate clamped_span moved_buses step accepted answer questions page_questions trigger_questions voice_phase_questions play_questions made player.made new_state count_for make_questions new_ensemble played_ensemble asked_ensemble greatest tabulate player.accepted with_settings with_bus first_no settings_questions bus_questions phase_questions settings_known settings_finite transport_known transport_finite transport_in settings_at with_switches with_spans rate_at span_at smooth_at transport_at scale_at lib.Ieee.neg le lt eq of_bits
+unfolding restart₁ restart₂ throughout window after playing played_record clamped_settings clamped_rate clamped_span moved_buses step accepted answer questions page_questions trigger_questions voice_phase_questions play_questions made player.made new_state count_for make_questions new_ensemble played_ensemble asked_ensemble greatest tabulate player.accepted with_settings with_bus first_no settings_questions bus_questions phase_questions settings_known settings_finite transport_known transport_finite transport_in settings_at rate_at span_at smooth_at transport_at scale_at lib.Ieee.neg le lt eq of_bits
 met =
     record {
       mode = inl refl;
@@ -93,12 +93,12 @@ voice₂ = record { codes = drawn; shared = 1; count = 3; seed = 2; accepted = m
 
 -- the first plays five frames from its restart, and the second four before its next restart
 five : (side : Side) → length (frames_from restart₁ side) ≡ 5
-unfolding restart₁ frames_from heard heard_of column after playing played_record step accepted answer questions page_questions trigger_questions voice_phase_questions play_questions made player.made new_state count_for make_questions new_ensemble played_ensemble asked_ensemble greatest tabulate player.accepted with_settings with_bus first_no settings_questions bus_questions phase_questions settings_known settings_finite transport_known transport_finite transport_in settings_at with_switches with_spans rate_at span_at smooth_at transport_at scale_at lib.Ieee.neg le lt eq of_bits
+unfolding restart₁ frames_from heard heard_of column after playing played_record step accepted answer questions page_questions trigger_questions voice_phase_questions play_questions made player.made new_state count_for make_questions new_ensemble played_ensemble asked_ensemble greatest tabulate player.accepted with_settings with_bus first_no settings_questions bus_questions phase_questions settings_known settings_finite transport_known transport_finite transport_in settings_at rate_at span_at smooth_at transport_at scale_at lib.Ieee.neg le lt eq of_bits
 five x_side = refl
 five y_side = refl
 
 four : (side : Side) → length (frames_from restart₂ side) ≡ 4
-unfolding restart₂ frames_from heard heard_of column after playing played_record step accepted answer questions page_questions trigger_questions voice_phase_questions play_questions made player.made new_state count_for make_questions new_ensemble played_ensemble asked_ensemble greatest tabulate player.accepted with_settings with_bus first_no settings_questions bus_questions phase_questions settings_known settings_finite transport_known transport_finite transport_in settings_at with_switches with_spans rate_at span_at smooth_at transport_at scale_at lib.Ieee.neg le lt eq of_bits
+unfolding restart₂ frames_from heard heard_of column after playing played_record step accepted answer questions page_questions trigger_questions voice_phase_questions play_questions made player.made new_state count_for make_questions new_ensemble played_ensemble asked_ensemble greatest tabulate player.accepted with_settings with_bus first_no settings_questions bus_questions phase_questions settings_known settings_finite transport_known transport_finite transport_in settings_at rate_at span_at smooth_at transport_at scale_at lib.Ieee.neg le lt eq of_bits
 four x_side = refl
 four y_side = refl
 

@@ -1,12 +1,11 @@
 -- Every page that the calls on an ensemble reach is one that a player's calls reach. Assumes nothing.
+use Rattle.std.specs.Prelude.{None, Option, Some}
 use Prim.Native.Nat.{ℕ, ◌<◌}
 use mathlib.Core.Path.{◌≡◌, refl, sym, ap, subst}
 use mathlib.Core.Bool.{Bool, true, false, cond}
 use mathlib.Core.List.{List, [], ◌∷◌}
 use borrow.Author.Tests.{eq-eqb}
 use Rattle.codes.specs.declared.SettingsCodes.{SettingsCodes}
-use Rattle.settings.specs.declared.record.TransportCode.{TransportCode}
-use Rattle.settings.specs.declared.record.TransportCode.TheVariants as TransportCode
 use Rattle.settings.specs.Codes.{transport_at}
 use Rattle.slot.specs.Slot.{Lfo}
 use Rattle.curves.specs.Given.{is_yes}
@@ -21,6 +20,7 @@ use Rattle.ensemble_calls.specs.Calls.{Call, settings, shape, path, bus, trigger
 use Rattle.ensemble_calls.specs.AsPlayer.{player_at}
 use Rattle.ensemble_calls.proofs.Own.{settings_taken, shape_taken, path_taken, bus_taken}
 use Rattle.ensemble_calls.proofs.AsPlayer.{page_made, made_as_player}
+use Rattle.settings.specs.declared.record.Transport.{Transport}
 
 -- it is said of the settings and curves alone
 good_page : (p q : State) → p.lfo ≡ q.lfo → Good p → Good q
@@ -49,10 +49,10 @@ good_edit : (p : State) (c : player.Call) → player.accepts p c ≡ true → Go
 unfolding player.after player.step
 good_edit p c h g = rw h at (good_after p (c ∷ []) g)
 
-good_played : (e : EnsembleState) (c : TransportCode) (n : ℕ) → GoodPage e → GoodPage (by_transport e c (λ t. played_ensemble e t n))
+good_played : (e : EnsembleState) (c : Option Transport) (n : ℕ) → GoodPage e → GoodPage (by_transport e c (λ t. played_ensemble e t n))
 unfolding played_ensemble
-good_played e (TransportCode.Known t) n g = record { settled = g.settled; shape_kept = g.shape_kept; path_kept = g.path_kept }
-good_played e TransportCode.Unknown n g = g
+good_played e (Some t) n g = record { settled = g.settled; shape_kept = g.shape_kept; path_kept = g.path_kept }
+good_played e None n g = g
 
 good_accepted : (e : EnsembleState) (c : Call) → accepts e c ≡ true → GoodPage e → GoodPage (accepted e c)
 unfolding accepted

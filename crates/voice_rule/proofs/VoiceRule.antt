@@ -1,4 +1,5 @@
 -- The restart rule holds of voices: from the restart's block on, a voice is a player. Assumes nothing.
+use Rattle.std.specs.Prelude.{Option, Some}
 use Prim.Native.Nat.{ℕ, ◌<◌}
 use mathlib.Core.Path.{◌≡◌, refl, sym, ap, ap₂, ◌∙◌, subst}
 use mathlib.Core.Bool.{Bool, true, false, cond}
@@ -7,12 +8,9 @@ use lib.ListN.{length, drop}
 use lib.Ieee.{Float}
 use borrow.Author.Tests.{eq-eqb, eqb-true}
 use Rattle.settings.specs.declared.record.Transport.{Transport}
-use Rattle.settings.specs.declared.record.TransportCode.TheVariants as TransportCode
 use Rattle.settings.specs.Codes.{transport_at}
 use Rattle.codes.specs.declared.TransportCodes.{TransportCodes}
 use Rattle.codes.specs.declared.RestartCodes.{RestartCodes}
-use Rattle.bank.specs.declared.parts.Pending.{Pending}
-use Rattle.bank.specs.declared.parts.Pending.TheVariants.{At}
 use Rattle.calls.specs.State.{State}
 use Rattle.calls.specs.Blocks.{values}
 use Rattle.calls.specs.Calls as player
@@ -42,10 +40,10 @@ module _ (e : EnsembleState) (v : ℕ) (one : v < length e.voices) (c : Transpor
   read_own side =
       let r = codes e c n x y h in
       go side r.0 r.1
-      ∙ ap (λ (at : Pending). values (player_at e v) r.0 n at (value_of side)) (sym (pending_codes (pending_at e v)))
+      ∙ ap (λ (at : Option ℕ). values (player_at e v) r.0 n at (value_of side)) (sym (pending_codes (pending_at e v)))
       ∙ sym (read_values (player_at e v) c n (restart_codes (pending_at e v)) x y r.0 r.1 (block_taken e v one c n x y h) side)
     where
-      go : (side : Side) (t : Transport) → transport_at c ≡ TransportCode.Known t → side_of side (heard_of v e c n x y) ≡ values (player_at e v) t n (pending_at e v) (value_of side)
+      go : (side : Side) (t : Transport) → transport_at c ≡ Some t → side_of side (heard_of v e c n x y) ≡ values (player_at e v) t n (pending_at e v) (value_of side)
       go x_side t R = ap (λ (z : Heard). z.x) (heard_is e c n x y h t R v one) ∙ unfold voice_values in refl
       go y_side t R = ap (λ (z : Heard). z.y) (heard_is e c n x y h t R v one) ∙ unfold voice_values in refl
 
@@ -210,6 +208,6 @@ voice_restart_rule p₁ p₂ r₁ r₂ fields h side n u v =
 
 -- every list of calls with a restart of the voice in it is the list of such a record
 pub every_restart : (v : ℕ) (from : EnsembleState) (calls before rest : List Call) (c : TransportCodes) (n : ℕ) (x y : List Float) (frame : ℕ)
-    → calls ≡ before ++ (block c n x y ∷ rest) → answer (after from before) (block c n x y) ≡ 0 → pending_at (after from before) v ≡ At frame → (r : RestartOf v from) × (calls ≡ calls_of r)
+    → calls ≡ before ++ (block c n x y ∷ rest) → answer (after from before) (block c n x y) ≡ 0 → pending_at (after from before) v ≡ Some frame → (r : RestartOf v from) × (calls ≡ calls_of r)
 every_restart v from calls before rest c n x y frame here e k =
     (record { before = before; transport = c; frames = n; x = x; y = y; rest = rest; accepted = e; frame = frame; waits = k }, here)

@@ -1,9 +1,8 @@
 -- The restart rule of voices: `RestartRule` of crate `restart`, where a restart is one asked for. It is proved in proofs/VoiceRule.antt. Assumes nothing.
-use Rattle.std.specs.Prelude.{ℕ, ◌<◌, min, ◌≡◌, true, cond, List, [], ◌∷◌, ◌++◌, length, get_or, drop, Float}
+use Rattle.std.specs.Prelude.{ℕ, ◌<◌, min, ◌≡◌, true, cond, List, [], ◌∷◌, ◌++◌, length, get_or, drop, Float, Some}
 use Rattle.std.specs.Float.{nan}
 use Rattle.codes.specs.declared.SettingsCodes.{SettingsCodes}
 use Rattle.codes.specs.declared.TransportCodes.{TransportCodes}
-use Rattle.bank.specs.declared.parts.Pending.TheVariants.{At}
 use Rattle.calls.specs.State.{State}
 use Rattle.restart.specs.Heard.{Side, x_side, y_side, frames_up_to, blocks_up_to}
 use Rattle.restart.specs.Rule.{word_after, AtRestart, TransportFields, Hypotheses}
@@ -45,7 +44,7 @@ pub record RestartOf (v : ℕ) (from : EnsembleState) : Type 0 where
   pub rest : List Call
   pub accepted : answer (after from before) (block transport frames x y) ≡ 0
   pub frame : ℕ
-  pub waits : pending_at (after from before) v ≡ At frame
+  pub waits : pending_at (after from before) v ≡ Some frame
 
 module _ {v : ℕ} {from : EnsembleState} (r : RestartOf v from) where
   abbrev pub restart_block : Call

@@ -38,29 +38,25 @@ fn seconds(seconds: f32) -> SpanCodes {
 
 // A drawn shape, Restart, forward.
 fn settings() -> SettingsCodes {
-    let rate = RateCodes {
-        code: 1,
-        division: 0,
-        feel: 0,
-        hz: HZ,
-        x10: 0,
-    };
-    let fade_in = seconds(FADE_SECONDS);
-    let delay = seconds(DELAY_SECONDS);
-    let smooth = SmoothCodes {
-        code: 0,
-        coefficient: 0.0,
-    };
     SettingsCodes {
         kind: 0,
         mode: 1,
         direction: 0,
-        rate,
+        rate: RateCodes {
+            code: 1,
+            division: 0,
+            feel: 0,
+            hz: HZ,
+            x10: 0,
+        },
         song_lock: 0,
         swing: 0,
-        fade_in,
-        delay,
-        smooth,
+        fade_in: seconds(FADE_SECONDS),
+        delay: seconds(DELAY_SECONDS),
+        smooth: SmoothCodes {
+            code: 0,
+            coefficient: 0.0,
+        },
         phase: 0.0,
         phase_snap: 0,
         grid_x: 8,
@@ -69,12 +65,7 @@ fn settings() -> SettingsCodes {
 
 // A point after which the shape holds `y` up to the next one.
 fn step(x: f32, y: f32) -> PointCodes {
-    let x_mod = ModCodes {
-        code: 0,
-        bus: 0,
-        depth: 0.0,
-    };
-    let y_mod = ModCodes {
+    let still = ModCodes {
         code: 0,
         bus: 0,
         depth: 0.0,
@@ -84,24 +75,19 @@ fn step(x: f32, y: f32) -> PointCodes {
         y,
         curve: 0.0,
         step: 1,
-        x_mod,
-        y_mod,
+        x_mod: still,
+        y_mod: still,
     }
 }
 
 // The first two are the shape's: 0 up to `STEP_AT`, and 1 from there on.
 fn points() -> [PointCodes; MAX_POINTS] {
-    let low = step(0.0, 0.0);
-    let mut points = [low; MAX_POINTS];
+    let mut points = [step(0.0, 0.0); MAX_POINTS];
     points[1] = step(STEP_AT, 1.0);
     points
 }
 
 fn transport() -> TransportCodes {
-    let scale = ScaleCodes {
-        code: 0,
-        percent: 100.0,
-    };
     TransportCodes {
         sample_rate: SAMPLE_RATE,
         tempo: 120.0,
@@ -110,7 +96,10 @@ fn transport() -> TransportCodes {
         beats: 0.0,
         seconds: 0.0,
         swing: 0.0,
-        scale,
+        scale: ScaleCodes {
+            code: 0,
+            percent: 100.0,
+        },
     }
 }
 
@@ -119,19 +108,8 @@ fn refused<W: Write>(to: &mut W, answer: u8) -> io::Result<bool> {
     if answer == 0 {
         return Ok(false);
     }
-    writeln!(to, "{}", answer as u64)?;
+    writeln!(to, "{answer}")?;
     Ok(true)
-}
-
-fn show_weight<W: Write>(to: &mut W, x: f32) -> io::Result<()> {
-    writeln!(to, "{:08x}", floatbits::bits_of_f32(x))
-}
-
-fn show_weights<W: Write>(to: &mut W, x: [f32; FRAMES]) -> io::Result<()> {
-    for i in 0..FRAMES {
-        show_weight(to, x[i])?;
-    }
-    Ok(())
 }
 
 fn main(rt: HostRuntime) -> io::Result<()> {
@@ -150,8 +128,8 @@ fn main(rt: HostRuntime) -> io::Result<()> {
         return to.flush();
     }
     let restart = RestartCodes { code: 1, frame: 0 };
-    let mut x = [0.0f32; FRAMES];
-    let mut y = [0.0f32; FRAMES];
+    let mut x = [0.0; FRAMES];
+    let mut y = [0.0; FRAMES];
     let played = player::play(
         shaped.player,
         transport(),
@@ -163,6 +141,8 @@ fn main(rt: HostRuntime) -> io::Result<()> {
     if refused(&mut to, played.answer)? {
         return to.flush();
     }
-    show_weights(&mut to, x)?;
+    for weight in x {
+        writeln!(to, "{:08x}", floatbits::bits_of_f32(weight))?;
+    }
     to.flush()
 }

@@ -4,7 +4,7 @@ use Rattle.std.proofs.Common.{◌≡◌, ℕ, zero, suc, ◌+◌, ◌-◌, ◌*�
 use Prim.Native.Nat.{compare}
 use native.Mathlib.Nat.{add-mul-div_right, eq_of_mul-eq-mul_right}
 use lib.Arith.{le→nltb}
-use lib.Ieee.{Float, nan, inf, fin, binary64, up, down, below, units, round, neg, add, sub, sum, lt, fits}
+use lib.Ieee.{Float, nan, inf, fin, binary64, up, down, below, units, round, neg, add, sub, lt, fits}
 use lib.Ieee.Fits.{down_pos, nearest-le}
 use lib.Ieee.Exact.{HasValue, units_val}
 use lib.Ieee.Back.{round_whole, whole_unique}

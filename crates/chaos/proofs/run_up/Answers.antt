@@ -1,6 +1,6 @@
 -- `chaos::run_up` meets its contract. As many steps are taken as the counter says. Assumes nothing.
 use mathlib.Core.Path.{refl, ap, ◌∙◌}
-use Prim.Native.Nat.{◌-◌, zero-le}
+use Prim.Native.Nat.{zero-le}
 use native.Mathlib.Nat.{le_antisymm}
 use native.Mathlib.Omega.{arith}
 use lib.Ieee.{of_bits, round}
@@ -18,11 +18,11 @@ unfolding of_bits round
 loop-preserved c =
     let args = c.args in
     let one =
-    in_a_row (field_of args.lorenz) args.h c.loop.at c.derivative-k1.ensures c.along.ensures
+    in_a_row (field_of args.attractor) args.h c.loop.at c.derivative-k1.ensures c.along.ensures
     c.derivative-k2.ensures c.plus.ensures c.along-next.ensures in
-    (omega arith, one_more args.lorenz args.h args.s c.loop.counter c.loop.invariant.1 one)
+    (omega arith, one_more args.attractor args.h args.s c.loop.counter c.loop.invariant.1 one)
 
 pub returns : goal.returns
 returns c =
     let args = c.args in
-    c.loop.invariant.1 ∙ ap (after args.lorenz args.h args.s) (le_antisymm c.loop.invariant.0 c.loop-test.false)
+    c.loop.invariant.1 ∙ ap (after args.attractor args.h args.s) (le_antisymm c.loop.invariant.0 c.loop-test.false)

@@ -5,7 +5,7 @@ use Rattle.chaos.proofs.Slopes.{after}
 use Rattle.chaos.proofs.run_up.Given as goal
 
 abbrev pub invariant-loop : goal.invariant-loop
-invariant-loop l = (l.counter ≤ l.n) × (l.at ≡ after l.lorenz l.h l.initial.at l.counter)
+invariant-loop l = (l.counter ≤ l.n) × (l.at ≡ after l.attractor l.h l.initial.at l.counter)
 
 abbrev pub decreases-loop : goal.decreases-loop
 decreases-loop l = l.n - l.counter

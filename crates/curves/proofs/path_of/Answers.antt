@@ -1,10 +1,11 @@
 -- `path_of` meets its contract: what each call gave. Assumes nothing.
-use Rattle.curves.specs.Given.{given_path}
+use lib.ListN.{get_or}
+use borrow.Author.Rules.{rules}
+use Rattle.curves.specs.Given.{no_path_point_codes, path_point_of, given_path_points, given_path}
 use Rattle.curves.proofs.path_of.Goals as goal
 
 pub returns : goal.returns
-unfolding given_path
-returns c = (
-  rw (c.new.ensures.0, c.is_yes.ensures, c.given_path_points-given.ensures, c.kept.ensures),
-  c.new.ensures.1,
-)
+unfolding given_path given_path_points
+returns c =
+    let given = c.filled-given.ensures (λ i. path_point_of (get_or c.args.c.points i no_path_point_codes)) (λ i r h e. search rules) in
+    (rw (c.new-2.ensures.0, c.is_yes.ensures, given, c.new.ensures, c.kept-n.ensures), c.new-2.ensures.1)

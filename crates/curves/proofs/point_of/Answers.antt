@@ -4,4 +4,4 @@ use Rattle.curves.proofs.point_of.Goals as goal
 
 pub returns : goal.returns
 unfolding point_of
-returns c = rw (c.is_yes-step.ensures, c.mod_of-x_mod.ensures, c.mod_of-y_mod.ensures)
+returns c = rw (c.is_yes.ensures, c.mod_of.ensures, c.mod_of-2.ensures)

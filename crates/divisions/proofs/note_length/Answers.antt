@@ -5,4 +5,4 @@ use Rattle.divisions.proofs.note_length.Goals as goal
 
 pub returns : goal.returns
 unfolding note_length note_lengths of_bits round
-returns c = rw c.place.ensures
+returns c = rw c.min.ensures

@@ -17,11 +17,6 @@ unfolding play_questions
 returns-then-not-play_fits c =
     rw (front_passed _ _ _ c.phase_answer-answer.ensures c.if-answer-ne0.false) (unfold first_no in rw (no c.play_fits.ensures c.if-not-play_fits.true))
 
-pub overflow_sub-frames : goal.overflow_sub-frames
-overflow_sub-frames c =
-    let a = c.args in
-    omega (arith, few a.frames a.count a.x_len a.y_len c.play_fits.ensures c.if-not-play_fits.false)
-
 pub returns-then-played-frames : goal.returns-then-played-frames
 unfolding play_questions
 returns-then-played-frames c =

@@ -8,7 +8,4 @@ use Rattle.item_calls.specs.Calls.{bus_calls}
 use Rattle.item_player.proofs.with_buses.Given as goal
 
 abbrev pub invariant-loop-k : goal.invariant-loop-k
-invariant-loop-k l = (length l.buses ≡ 16) × (l.k ≤ 16) × Valid l.q × (after (state_of l.initial.q) (bus_calls l.buses 0) ≡ after (state_of l.q) (bus_calls (drop l.k l.buses) l.k))
-
-abbrev pub decreases-loop-k : goal.decreases-loop-k
-decreases-loop-k l = 16 - l.k
+invariant-loop-k l = Valid l.q × (after (state_of l.initial.q) (bus_calls l.buses 0) ≡ after (state_of l.q) (bus_calls (drop l.k l.buses) l.k))

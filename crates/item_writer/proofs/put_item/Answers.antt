@@ -8,7 +8,7 @@ returns c =
     item_put _
     (c.put_front-front.ensures
     then c.put-seed.ensures
-    then c.put_f64-tempo.ensures
-    then c.put_f64-bar.ensures
-    then c.put_f32-swing.ensures
-    then c.put_scale.ensures)
+    then c.put-tempo.ensures
+    then c.put-bar.ensures
+    then c.put-swing.ensures
+    then c.put.ensures)

@@ -1,5 +1,5 @@
 -- `leg::significand` meets its contract: what it looks for stays among the `width` numbers from `lo` on. Assumes nothing.
-use Rattle.std.proofs.Common.{◌-◌, ◌^◌, ◌<◌, ◌≤◌, le_trans, lt_of_lt_of_le, lt_of_le_of_lt, arith, lit<, lit≤}
+use Rattle.std.proofs.Common.{◌^◌, ◌<◌, le_trans, lt_of_lt_of_le, lt_of_le_of_lt, arith, lit<, lit≤}
 use Rattle.leg.proofs.Halves.{sq_le}
 use Rattle.leg.proofs.significand.Invariants.{upper, lower}
 use Rattle.leg.proofs.significand.Goals as goal

@@ -11,4 +11,4 @@ held c = subst T (sym c.well_formed.0.1) tt
 pub returns : goal.returns
 returns c =
     let k = squares_read c.args.c (held (goal.at.returns c).Start) in
-    rw (c.f64_to_u64.ensures, c.f32_to_f64_with_nan-y.ensures, c.clamp_f32.ensures) (k.0, le_trans (le_of_eq k.0) k.1)
+    rw (c.f64_to_u64.ensures, c.f32_to_f64_with_nan-y.ensures, c.clamp.ensures) (k.0, le_trans (le_of_eq k.0) k.1)

@@ -20,7 +20,7 @@ pub overflow_sub-t : goal.overflow_sub-t
 overflow_sub-t c = (place (goal.at.overflow_sub-t c).Else-n-lt16777216).0
 
 pub cut_even-requires : goal.cut_even-requires
-cut_even-requires c = record { fact_1 = (place (goal.at.cut_even-requires c).Else-n-lt16777216).1.0; fact_2 = lt_of_le_of_lt (place (goal.at.cut_even-requires c).Else-n-lt16777216).1.1 (lit< tt) }
+cut_even-requires c = record { some = (place (goal.at.cut_even-requires c).Else-n-lt16777216).1.0; below_64 = lt_of_le_of_lt (place (goal.at.cut_even-requires c).Else-n-lt16777216).1.1 (lit< tt) }
 
 pub overflow_add-result-else-n-lt16777216 : goal.overflow_add-result-else-n-lt16777216
 overflow_add-result-else-n-lt16777216 c = record { fits = pattern_wide c.args.n (40 - count_leading_zeros 64 c.args.n) c.cut_even.result (place (goal.at.overflow_add-result-else-n-lt16777216 c).Else-n-lt16777216).1 c.cut_even.ensures }

@@ -2,10 +2,10 @@
 use Rattle.points.specs.Modulation.{offset_of}
 use Rattle.points.proofs.offset.Goals as goal
 
+pub returns-in-Some : goal.returns-in-Some
+unfolding offset_of
+returns-in-Some c = cc
+
 pub returns-in-None : goal.returns-in-None
 unfolding offset_of
 returns-in-None c = cc
-
-pub returns-in-Bus : goal.returns-in-Bus
-unfolding offset_of
-returns-in-Bus c = cc

@@ -4,4 +4,4 @@ use Rattle.points.proofs.placed.Goals as goal
 
 pub returns : goal.returns
 unfolding placed_of
-returns c = rw (c.clamp_f32.ensures, c.moved.ensures)
+returns c = rw (c.clamp.ensures, c.moved.ensures)

@@ -1,7 +1,6 @@
 -- `print_last` meets its contract: what is due where the input has ended fits into the buffer. Assumes nothing.
-use Rattle.std.proofs.Common.{◌≤◌, length, sym, arith, length-take-le}
+use Rattle.std.proofs.Common.{sym, arith, length-take-le}
 use Rattle.turns.proofs.One.{last_short}
-use Rattle.turns.specs.Turns.{turn_room}
 use Rattle.printing.proofs.print_last.Goals as goal
 
 pub slice_bounds-write_all-end : goal.slice_bounds-write_all-end

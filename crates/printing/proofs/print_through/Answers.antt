@@ -1,5 +1,5 @@
 -- `print_through` meets its contract. Assumes nothing.
-use Rattle.std.proofs.Common.{◌≤◌, refl, arith}
+use Rattle.std.proofs.Common.{refl, arith}
 use Rattle.printing.proofs.Loop.{fine_wanting, taken_in, not_over}
 use Rattle.printing.proofs.print_through.Goals as goal
 

@@ -34,11 +34,6 @@ returns-then-not-block_fits c =
       no c.block_fits.ensures c.if-not-block_fits.true,
     )
 
-pub overflow_sub-frames : goal.overflow_sub-frames
-overflow_sub-frames c =
-    let at = c.args in
-    omega (arith, few at.frames at.x_len at.y_len c.block_fits.ensures c.if-not-block_fits.false)
-
 pub returns-then-played-frames : goal.returns-then-played-frames
 unfolding first_no block_questions
 returns-then-played-frames c =

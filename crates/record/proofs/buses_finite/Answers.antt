@@ -1,22 +1,16 @@
--- `buses_finite` meets its contract. The loop's invariant: `all` is the test of the first i. Assumes nothing.
-use Prim.Native.Nat.{◌-◌}
-use mathlib.Core.Path.{refl}
-use native.Mathlib.Omega.{arith}
-use borrow.Author.Rules.{rules}
-use Rattle.questions.specs.Tests.{every}
-use Rattle.questions.proofs.Laws.{every_more}
-use Rattle.record.proofs.buses_finite.Invariants.{whole}
+-- `buses_finite` meets its contract: the chain tests each bus. Assumes nothing.
+use Rattle.std.proofs.Common.{rules, ◌∙◌, sym, ap, length, arith}
+use Rattle.std.proofs.Math.Seq.{take-length}
+use Rattle.std.proofs.lemmas.Iterator.{YieldsList-from_slice}
+use Rattle.std.proofs.lemmas.Iterator.Search.{all_from_yields_List}
+use Rattle.std.specs.List.{list_all}
+use lib.Ieee.{nan}
+use lib.Ieee.Scale.{finite}
+use Rattle.questions.proofs.Laws.{every_first}
 use Rattle.record.proofs.buses_finite.Goals as goal
-
-pub loop-i-init : goal.loop-i-init
-unfolding every
-loop-i-init c = (omega arith, search rules, refl)
-
-pub loop-i-preserved : goal.loop-i-preserved
-loop-i-preserved c = let inv = c.loop-i.invariant in (omega arith, inv.1, every_more _ _ inv.2 c.is_finite_f32-all.ensures)
 
 pub returns : goal.returns
 returns c =
-    let at = c.loop-i in
-    let inv = at.invariant in
-    whole c.args.buses at.i inv.1 (omega arith) inv.2
+    let buses = c.args.buses in
+    all_from_yields_List finite _ _ _ c.all.ensures.ran (YieldsList-from_slice buses c.iter.ensures.rest) (λ x b q k. search rules)
+    ∙ (ap (list_all finite) (sym (take-length buses)) ∙ every_first finite nan buses (length buses) (omega arith))

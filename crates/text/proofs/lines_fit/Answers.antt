@@ -9,15 +9,12 @@ use Rattle.text.specs.Write.{fits}
 use Rattle.text.proofs.Steps.{lines_most}
 use Rattle.text.proofs.lines_fit.Goals as goal
 
-enough : {t : Bool} (len at first n : ℕ) → lines_size first n ≤ 39 * n → t ≡ fits len at (39 * n) → t ≡ true → true ≡ fits len at (lines_size first n)
+enough : {t : Bool} (len at first n : ℕ) → lines_size first n ≤ 39 * n → t ≡ fits len at (39 * n) → t ≡ true → t ≡ fits len at (lines_size first n)
 enough len at first n most asked e =
     let room = leb-true (at + 39 * n) len (sym asked ∙ e) in
-    sym (le-leb (at + lines_size first n) len (omega arith))
+    e ∙ sym (le-leb (at + lines_size first n) len (omega arith))
 
-pub returns-then-has_room : goal.returns-then-has_room
-returns-then-has_room c =
+pub returns-then-fits : goal.returns-then-fits
+returns-then-fits c =
     let a = c.args in
-    enough a.len a.at a.first a.n (lines_most a.n a.first c.requires.1) c.has_room.ensures c.if-has_room.true
-
-pub returns : goal.returns
-returns c = rw c.lines_size.ensures at c.has_room-2.ensures
+    enough a.len a.at a.first a.n (lines_most a.n a.first c.requires.1) c.fits.ensures c.if-fits.true

@@ -8,12 +8,12 @@ use Rattle.whole.proofs.floor.Goals as goal
 
 pub small_floor-requires : goal.small_floor-requires
 unfolding of_bits neg
-small_floor-requires c = record { fact_1 = yes_so c.if-x.true; fact_2 = yes_so c.if-x-2.true }
+small_floor-requires c = record { above = yes_so c.if-x.true; below = yes_so c.if-x-2.true }
 
-pub returns-then-x-t : goal.returns-then-x-t
-returns-then-x-t c =
-    floor_down c.args.x c.trunc-t.result (subst T (sym c.well_formed.0.1) tt) c.trunc-t.ensures c.if-x-t.true
+pub returns-then-is_above : goal.returns-then-is_above
+returns-then-is_above c =
+    floor_down c.args.x c.trunc-t.result (subst T (sym c.well_formed.0.1) tt) c.trunc-t.ensures c.if-is_above.true
 
-pub returns-else-x-t : goal.returns-else-x-t
-returns-else-x-t c =
-    floor_same c.args.x c.trunc-t.result (subst T (sym c.well_formed.0.1) tt) c.trunc-t.ensures c.if-x-t.false
+pub returns-else-is_above : goal.returns-else-is_above
+returns-else-is_above c =
+    floor_same c.args.x c.trunc-t.result (subst T (sym c.well_formed.0.1) tt) c.trunc-t.ensures c.if-is_above.false

@@ -8,7 +8,7 @@ use Rattle.whole.proofs.small_floor.Goals as goal
 use Rattle.whole.proofs.small_floor.Goals.{Start}
 
 at : (c : Start) → Steps c.args.x (nearby c.args.x) (whole_of binary64 to_floor c.args.x)
-at c = steps c.args.x (subst T (sym c.well_formed.0.1) tt) c.requires.fact_1 c.requires.fact_2
+at c = steps c.args.x (subst T (sym c.well_formed.0.1) tt) c.requires.above c.requires.below
 
 pub returns-then-x-t : goal.returns-then-x-t
 unfolding of_bits

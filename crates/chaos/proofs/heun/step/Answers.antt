@@ -8,5 +8,5 @@ pub returns : goal.returns
 unfolding of_bits round
 returns c =
     let args = c.args in
-    in_a_row (field_of args.lorenz) args.h args.s c.derivative-k1.ensures c.along.ensures
+    in_a_row (field_of args.attractor) args.h args.s c.derivative-k1.ensures c.along.ensures
     c.derivative-k2.ensures c.plus.ensures c.along-2.ensures

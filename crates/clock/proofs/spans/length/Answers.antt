@@ -8,7 +8,7 @@ returns-in-Off c = rw (← c.clamped.ensures, c.in-Off.is)
 
 pub returns-in-Synced : goal.returns-in-Synced
 unfolding length_of span_length
-returns-in-Synced c = rw (← c.clamped.ensures, c.in-Synced.is, c.max_f64.ensures, c.beats-beats.ensures)
+returns-in-Synced c = rw (← c.clamped.ensures, c.in-Synced.is, c.max.ensures, c.beats-beats.ensures)
 
 pub returns-in-Seconds : goal.returns-in-Seconds
 unfolding length_of span_length

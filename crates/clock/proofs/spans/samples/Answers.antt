@@ -4,4 +4,4 @@ use Rattle.clock.proofs.spans.samples.Goals as goal
 
 pub returns : goal.returns
 unfolding samples_of
-returns c = rw (c.f64_to_u64.ensures, c.clamp_f64.ensures, c.round-nearest.ensures, c.length.ensures)
+returns c = rw (c.f64_to_u64.ensures, c.clamp.ensures, c.round-nearest.ensures, c.length.ensures)

@@ -4,4 +4,4 @@ use Rattle.clock.proofs.steps.split.Goals as goal
 
 pub returns : goal.returns
 unfolding split_of split_count
-returns c = rw (c.f64_to_u32-count.ensures, c.f64_to_f32-h.ensures, c.clamp_f64-steps.ensures, c.ceil.ensures)
+returns c = rw (c.f64_to_u32-count.ensures, c.f64_to_f32-h.ensures, c.clamp-steps.ensures, c.ceil.ensures)

@@ -6,12 +6,8 @@ use lib.ListN.{set}
 use lib.Seq.{set_split}
 use Rattle.ensemble.specs.declared.BlockPage.{BlockPage}
 use Rattle.ensemble.specs.declared.Member.{Member}
-use Rattle.ensemble.specs.Ensemble.{Ready, Plays, TurnReady, Turns, no_member}
+use Rattle.ensemble.specs.Ensemble.{Plays, Turns, no_member}
 use Rattle.ensemble.proofs.playing.turn.Goals as goal
-
--- of a record that is there it makes no difference what would stand past the list's end
-ready_at : (p : BlockPage) (l : List Member) (v : ℕ) (d : Member) (x y : List Float) → TurnReady p v l x y → Ready p (get_or l v d) v x y
-ready_at p l v d x y h = subst (λ (m : Member). Ready p m v x y) (get_or_default l v no_member d h.listed) h.ready
 
 turned : (p : BlockPage) (l : List Member) (v : ℕ) (d : Member) (x y : List Float) (m : Member) (x' y' : List Float) → v < length l → Plays p (get_or l v d) v x y m x' y' → Turns p v l x y (set l v m) x' y'
 turned p l v d x y m x' y' h w =
@@ -21,9 +17,6 @@ turned p l v d x y m x' y' h w =
       x_is = w'.x_is;
       y_is = w'.y_is;
     }
-
-pub played-requires : goal.played-requires
-played-requires c = ready_at _ _ _ _ _ _ c.requires
 
 pub returns : goal.returns
 returns c = turned _ _ _ _ _ _ _ _ _ c.requires.listed c.played.ensures

@@ -6,7 +6,6 @@ use Rattle.ensemble.proofs.playing.turns.Goals as goal
 pub loop-v-init : goal.loop-v-init
 loop-v-init c =
     record {
-      within = omega arith;
       voices_are = sym (list_none c.args.p c.args.voices.now);
       x_is = sym (buffer_none c.args.p c.args.voices.now (λ f. f.x) c.args.x.now);
       y_is = sym (buffer_none c.args.p c.args.voices.now (λ f. f.y) c.args.y.now);
@@ -23,7 +22,6 @@ loop-v-preserved c =
     let one : c.loop-v.v < c.args.p.voices = omega (arith, c.requires.0) in
     let e = rw (inv.voices_are, inv.x_is, inv.y_is) at c.turn.ensures in
     record {
-      within = omega arith;
       voices_are = list_next c.args.p c.args.voices.now c.args.x.now c.args.y.now c.requires.1 c.loop-v.v one _ _ _ e;
       x_is = x_next c.args.p c.args.voices.now c.args.x.now c.args.y.now c.requires.1 c.loop-v.v one _ _ _ e;
       y_is = y_next c.args.p c.args.voices.now c.args.x.now c.args.y.now c.requires.1 c.loop-v.v one _ _ _ e;
@@ -32,4 +30,4 @@ loop-v-preserved c =
 pub returns : goal.returns
 returns c =
     let inv = c.loop-v.invariant in
-    rw (inv.voices_are, inv.x_is, inv.y_is) (all_played c.args.p c.args.voices.now c.args.x.now c.args.y.now c.requires.1 c.loop-v.v (omega (arith, inv.within, c.requires.0, c.loop-v-test.false)))
+    rw (inv.voices_are, inv.x_is, inv.y_is) (all_played c.args.p c.args.voices.now c.args.x.now c.args.y.now c.requires.1 c.loop-v.v (omega (arith, c.requires.0)))

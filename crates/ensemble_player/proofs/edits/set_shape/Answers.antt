@@ -2,9 +2,6 @@
 use Rattle.ensemble_player.proofs.Sets.{shape_done}
 use Rattle.ensemble_player.proofs.edits.set_shape.Goals as goal
 
-pub set_shape-set-requires : goal.set_shape-set-requires
-set_shape-set-requires c = rw c.server_of.ensures c.requires.server_valid
-
 pub returns : goal.returns
 returns c =
-    rw c.paged-ensemble.ensures (shape_done _ c.requires _ _ (rw c.server_of.ensures at c.set_shape-set.ensures))
+    rw c.paged.ensures (shape_done _ c.requires _ _ (rw c.server_of.ensures at c.set_shape-set.ensures))

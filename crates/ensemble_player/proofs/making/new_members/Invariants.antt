@@ -1,5 +1,5 @@
 -- `new_members` meets its contract. The loop's invariant: the first v voices are there. Assumes nothing.
-use Rattle.std.proofs.Common.{◌≡◌, ℕ, ◌-◌, ◌≤◌, List, append-nil}
+use Rattle.std.proofs.Common.{◌≡◌, ℕ, List, append-nil}
 use Rattle.listlaws.specs.Tables.{tabulate, padded}
 use Rattle.listlaws.proofs.Tabulation.{length_tabulate}
 use Rattle.ensemble.specs.declared.Member.{Member}
@@ -14,7 +14,4 @@ pub full : (seed : ℕ) → padded 16 (new_member 0) (voices seed 16) ≡ voices
 full seed = rw (length_tabulate (λ u. new_member (seed_of seed u)) 16) (append-nil (voices seed 16))
 
 abbrev pub invariant-loop-v : goal.invariant-loop-v
-invariant-loop-v l = (l.v ≤ 16) × (l.members ≡ padded 16 (new_member 0) (voices l.seed l.v))
-
-abbrev pub decreases-loop-v : goal.decreases-loop-v
-decreases-loop-v l = 16 - l.v
+invariant-loop-v l = l.m-items ≡ padded 16 (new_member 0) (voices l.seed l.v)

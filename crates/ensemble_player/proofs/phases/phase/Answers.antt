@@ -13,12 +13,12 @@ pub returns-then-e : goal.returns-then-e
 returns-then-e c =
     c.phase.ensures ∙ rw c.server_of-server.ensures (shared_phase _ c.requires _ _ _ c.voice_phase_answer-answer.ensures c.if-answer-ne0.false c.if-e.true)
 
-pub offset_bounds-members-k : goal.offset_bounds-members-k
-offset_bounds-members-k c =
+pub offset_bounds-e-v : goal.offset_bounds-e-v
+offset_bounds-e-v c =
     record { fits = omega (arith, below c.args.e c.requires c.args.v c.args.t _ c.voice_phase_answer-answer.ensures c.if-answer-ne0.false, c.requires.few) }
 
-pub bounds-members-k : goal.bounds-members-k
-bounds-members-k c =
+pub bounds-e-v : goal.bounds-e-v
+bounds-e-v c =
     omega (arith, below c.args.e c.requires c.args.v c.args.t _ c.voice_phase_answer-answer.ensures c.if-answer-ne0.false, c.requires.few, c.requires.listed)
 
 pub returns : goal.returns

@@ -1,5 +1,5 @@
 -- `finished_of` meets its contract. The loop's invariant: the first v are there. Assumes nothing.
-use Rattle.std.proofs.Common.{◌≡◌, ℕ, zero, suc, ◌-◌, ◌≤◌, Bool, false, List, map, length, get_or, take, sym, refl, ap, ◌∙◌, arith, take-suc}
+use Rattle.std.proofs.Common.{◌≡◌, ℕ, zero, suc, ◌≤◌, Bool, false, List, map, length, get_or, take, sym, refl, ap, ◌∙◌, arith, take-suc}
 use Rattle.listlaws.specs.Tables.{tabulate, padded}
 use Rattle.ensemble.specs.declared.Member.{Member}
 use Rattle.ensemble.specs.Ensemble.{no_member}
@@ -18,7 +18,4 @@ pub done_is : (members : List Member) (n : ℕ) → n ≤ length members → don
 done_is members n h = sym (map_tabulate (λ m. m.finished) (λ i. get_or members i no_member) n) ∙ ap (map (λ m. m.finished)) (tabulate_take members n h)
 
 abbrev pub invariant-loop-v : goal.invariant-loop-v
-invariant-loop-v l = (l.v ≤ l.count) × (l.out ≡ padded 16 false (done l.members l.v))
-
-abbrev pub decreases-loop-v : goal.decreases-loop-v
-decreases-loop-v l = l.count - l.v
+invariant-loop-v l = l.out ≡ padded 16 false (done l.members l.v)

@@ -1,18 +1,17 @@
--- `idle_members` meets its contract. The loop's invariant: the first v are idle. Assumes nothing.
-use Rattle.std.proofs.Common.{◌≡◌, ◌-◌, refl, ◌∙◌, add-one, arith, rules}
+-- `idle_members` meets its contract. The loop's invariant: those before the index are idle. Assumes nothing.
+use Rattle.std.proofs.Common.{◌≡◌, refl, ◌∙◌, add-one, arith}
 use Rattle.ensemble.proofs.Mapped.{mapped}
 use Rattle.ensemble_player.proofs.playing.idle_members.Invariants.{set_mapped, all_mapped}
 use Rattle.ensemble_player.proofs.playing.idle_members.Goals as goal
 
-pub loop-v-init : goal.loop-v-init
+pub loop-m-init : goal.loop-m-init
 unfolding mapped
-loop-v-init c = (search rules, refl)
+loop-m-init c = refl
 
-pub loop-v-preserved : goal.loop-v-preserved
-loop-v-preserved c =
-    (omega arith, rw (c.idle_member-member.ensures, c.loop-v.invariant.1, add-one) (set_mapped _ _ _ _))
+pub loop-m-preserved : goal.loop-m-preserved
+loop-m-preserved c = rw (c.idle_member.ensures, c.loop-m.invariant, add-one) (set_mapped _ _ _ _)
 
 pub returns : goal.returns
 returns c =
-    let e : c.loop-v.v ≡ 16 = omega arith in
-    c.loop-v.invariant.1 ∙ rw e (all_mapped _ _ c.requires)
+    let e : c.loop-m.m-index ≡ 16 = omega (arith, c.loop-m.auto.m-index-end) in
+    c.loop-m.invariant ∙ rw e (all_mapped _ _ c.requires)

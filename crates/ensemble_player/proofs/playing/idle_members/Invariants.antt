@@ -1,5 +1,5 @@
--- `idle_members` meets its contract. The loop's invariant: the first v are idle. Assumes nothing.
-use Rattle.std.proofs.Common.{◌≡◌, ℕ, zero, suc, ◌-◌, ◌≤◌, List, [], ◌∷◌, ◌++◌, map, length, get_or, drop, set, sym, refl, ap, ◌∙◌, append-nil, arith, take_all}
+-- `idle_members` meets its contract. The loop's invariant: those before the index are idle. Assumes nothing.
+use Rattle.std.proofs.Common.{◌≡◌, ℕ, zero, suc, List, [], ◌∷◌, ◌++◌, map, length, get_or, drop, set, sym, refl, ap, ◌∙◌, append-nil, arith, take_all}
 use lib.Seq.{drop-length}
 use Rattle.ensemble.specs.declared.Member.{Member}
 use Rattle.ensemble.proofs.Mapped.{mapped, mapped_is}
@@ -18,8 +18,5 @@ all_mapped f l e =
     mapped_is f 16 l ∙ ap (λ (t : List Member). map f t ++ drop 16 l) (take_all 16 l (omega (arith, e))) ∙ ap (λ (t : List Member). map f l ++ t) (ap (λ (n : ℕ). drop n l) (sym e) ∙ drop-length l)
     ∙ append-nil (map f l)
 
-abbrev pub invariant-loop-v : goal.invariant-loop-v
-invariant-loop-v l = (l.v ≤ 16) × (l.members ≡ mapped (idle_member l.finished) l.v l.initial.members)
-
-abbrev pub decreases-loop-v : goal.decreases-loop-v
-decreases-loop-v l = 16 - l.v
+abbrev pub invariant-loop-m : goal.invariant-loop-m
+invariant-loop-m l = l.m-items ≡ mapped (idle_member l.finished) l.m-index l.initial.m-items

@@ -1,15 +1,11 @@
 -- `play_apart` meets its contract. Assumes nothing.
 use Rattle.std.proofs.Common.{arith}
-use Rattle.ensemble_player.proofs.Apart.{count_small, loopback_small, within_life, members_ready, apart}
+use Rattle.ensemble_player.proofs.Apart.{count_small, within_life, members_ready, apart}
 use Rattle.ensemble_player.proofs.playing.play_apart.Goals as goal
 
 pub prepare-prepared-requires : goal.prepare-prepared-requires
 prepare-prepared-requires c =
     count_small c.args.e c.args.t c.args.frames c.args.x.now c.args.y.now c.requires.0
-
-pub block_page-all-requires : goal.block_page-all-requires
-block_page-all-requires c =
-    loopback_small c.args.e c.args.t c.args.frames c.args.x.now c.args.y.now c.requires.0
 
 pub play_members-members-requires : goal.play_members-members-requires
 play_members-members-requires c =

@@ -3,10 +3,6 @@ use Rattle.std.proofs.Common.{refl}
 use Rattle.ensemble_player.proofs.Serving.{fits_x, fits_y, served}
 use Rattle.ensemble_player.proofs.playing.play_shared.Goals as goal
 
-pub play-r-requires : goal.play-r-requires
-play-r-requires c =
-    rw c.server_of.ensures c.requires.0.valid.server_valid
-
 pub spread-requires : goal.spread-requires
 spread-requires c =
     fits_x _ _ _ _ _ c.requires.0 _ _ _ refl refl _ _ _ (rw c.server_of.ensures at c.play-r.ensures) _ refl
@@ -14,10 +10,6 @@ spread-requires c =
 pub spread-requires-2 : goal.spread-requires-2
 spread-requires-2 c =
     fits_y _ _ _ _ _ c.requires.0 _ _ _ refl refl _ _ _ (rw c.server_of.ensures at c.play-r.ensures) _ refl
-
-pub idle_members-members-requires : goal.idle_members-members-requires
-idle_members-members-requires c =
-    c.requires.0.valid.listed
 
 pub returns : goal.returns
 returns c =

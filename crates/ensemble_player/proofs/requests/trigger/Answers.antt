@@ -25,4 +25,4 @@ bounds-members-k-2 c =
 
 pub returns : goal.returns
 returns c =
-    trigger_done _ c.requires _ _ _ c.trigger_answer-answer.ensures c.if-answer-ne0.false _ _ _ c.asked_member-member.ensures c.greater-asked.ensures
+    trigger_done _ c.requires _ _ _ c.trigger_answer-answer.ensures c.if-answer-ne0.false _ _ _ c.asked_member.ensures c.greater.ensures

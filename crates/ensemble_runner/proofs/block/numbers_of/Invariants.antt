@@ -1,5 +1,5 @@
 -- `numbers_of` meets its contract. The loop's invariant: the answer and the first v are there. Assumes nothing.
-use Prim.Native.Nat.{ℕ, suc, ◌-◌, ◌≤◌, ◌<◌}
+use Prim.Native.Nat.{ℕ, suc, ◌<◌}
 use mathlib.Core.Path.{◌≡◌, sym, ap₂, ◌∙◌}
 use mathlib.Core.Bool.{Bool, false}
 use mathlib.Core.List.{List, [], ◌∷◌, ◌++◌, map}
@@ -37,7 +37,4 @@ module _ (answer : ℕ) (finished : List Bool) (many : length finished ≡ 16) w
       ∙ take_all (suc v) (all answer finished) (omega (arith, length-map finished flag_of, many))
 
 abbrev pub invariant-loop-v : goal.invariant-loop-v
-invariant-loop-v l = (l.v ≤ 16) × Filled l.answer l.finished l.v l.numbers
-
-abbrev pub decreases-loop-v : goal.decreases-loop-v
-decreases-loop-v l = 16 - l.v
+invariant-loop-v l = Filled l.answer l.finished l.v l.numbers

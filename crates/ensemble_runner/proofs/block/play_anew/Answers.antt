@@ -9,16 +9,6 @@ slice_bounds-play-end c =
     let long = sevens_long 65600 c.full-x.ensures in
     simp length-take (omega arith)
 
-pub slice_bounds-play-end-2 : goal.slice_bounds-play-end-2
-slice_bounds-play-end-2 c =
-    let long = sevens_long 65600 c.full-y.ensures in
-    simp length-take (omega arith)
-
-pub play-requires : goal.play-requires
-play-requires c =
-    let p = c.requires in
-    (p.0, simp length-take (omega arith), simp length-take (omega arith))
-
 pub returns : goal.returns
 returns c =
     let p = c.requires in

@@ -7,10 +7,7 @@ use Rattle.ensemble_player.specs.Ensembles.{state_of, Valid}
 use Rattle.ensemble_runner.specs.Output.{ensembles}
 use Rattle.ensemble_runner.proofs.calling.calls.Given as goal
 
-abbrev pub invariant-loop-turn : goal.invariant-loop-turn
-invariant-loop-turn l = (l.turn ≤ length l.run)
-    × Goes ensembles l.run l.initial.out l.start (given ensembles (length l.run) (state_of l.initial.e) l.run l.from) l.out l.place (length l.run - l.turn) (state_of l.e) l.at
+abbrev pub invariant-loop : goal.invariant-loop
+invariant-loop l = (l.counter ≤ length l.run)
+    × Goes ensembles l.run l.initial.out l.start (given ensembles (length l.run) (state_of l.initial.e) l.run l.from) l.out l.place (length l.run - l.counter) (state_of l.e) l.at
     × Valid l.e
-
-abbrev pub decreases-loop-turn : goal.decreases-loop-turn
-decreases-loop-turn l = length l.run - l.turn

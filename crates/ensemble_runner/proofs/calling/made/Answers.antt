@@ -1,19 +1,14 @@
 -- `made` meets its contract. Assumes nothing.
 use Rattle.ensemble_runner.proofs.Readings.{making}
-use Rattle.ensemble_runner.proofs.Replying.{begins_made, begins_refused, begins_ill}
+use Rattle.ensemble_runner.proofs.Replying.{begins_made, begins_refused}
 use Rattle.ensemble_runner.proofs.calling.made.Goals as goal
 
-pub returns-then-r-eq0 : goal.returns-then-r-eq0
-returns-then-r-eq0 c =
-    let r = making c.args.run.now c.read_settings-c.ensures c.read_number-shared.ensures c.read_number-count.ensures c.read_number-seed.ensures in
-    rw c.reply.ensures (begins_made r c.make-r.ensures c.if-next-eq0.true c.if-r-eq0.true)
+pub returns-then-made-eq0 : goal.returns-then-made-eq0
+returns-then-made-eq0 c =
+    let r = making c.args.run.now _ _ _ _ c.in_ok-codes.ensures c.in_ok-shared.ensures c.in_ok-count.ensures c.in_ok-seed.ensures in
+    rw c.reply.ensures (begins_made r c.make-made.ensures c.if-made-eq0.true)
 
-pub returns-then-next-eq0 : goal.returns-then-next-eq0
-returns-then-next-eq0 c =
-    let r = making c.args.run.now c.read_settings-c.ensures c.read_number-shared.ensures c.read_number-count.ensures c.read_number-seed.ensures in
-    rw c.reply-then-next-eq0.ensures (begins_refused r c.make-r.ensures c.if-next-eq0.true c.if-r-eq0.false)
-
-pub returns : goal.returns
-returns c =
-    let r = making c.args.run.now c.read_settings-c.ensures c.read_number-shared.ensures c.read_number-count.ensures c.read_number-seed.ensures in
-    rw c.malformed.ensures (begins_ill r c.make-r.ensures c.if-next-eq0.false)
+pub returns-else-made-eq0 : goal.returns-else-made-eq0
+returns-else-made-eq0 c =
+    let r = making c.args.run.now _ _ _ _ c.in_ok-codes.ensures c.in_ok-shared.ensures c.in_ok-count.ensures c.in_ok-seed.ensures in
+    rw c.reply-else-made-eq0.ensures (begins_refused r c.make-made.ensures c.if-made-eq0.false)

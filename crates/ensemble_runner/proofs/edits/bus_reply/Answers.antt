@@ -2,16 +2,11 @@
 use mathlib.Core.Path.{refl}
 use Rattle.ensemble_runner.specs.Numbers.{numbers}
 use Rattle.ensemble_runner.proofs.Readings.{bus_call_lem}
-use Rattle.ensemble_runner.proofs.Replying.{replies_read, replies_ill, change_answers}
+use Rattle.ensemble_runner.proofs.Replying.{replies_read, change_answers}
 use Rattle.ensemble_runner.proofs.edits.bus_reply.Goals as goal
 
-pub returns-then-next-eq0 : goal.returns-then-next-eq0
-unfolding numbers
-returns-then-next-eq0 c =
-    let r = bus_call_lem c.args.run.now c.read_number-bus.ensures c.read_f32-value.ensures in
-    rw c.changed.ensures (replies_read c.args.run.now c.args.e r c.if-next-eq0.true _ refl refl (change_answers c.set_bus.ensures refl _))
-
 pub returns : goal.returns
+unfolding numbers
 returns c =
-    let r = bus_call_lem c.args.run.now c.read_number-bus.ensures c.read_f32-value.ensures in
-    rw c.malformed.ensures (replies_ill c.args.run.now c.args.e r c.if-next-eq0.false c.requires)
+    let r = bus_call_lem c.args.run.now _ _ c.in_ok-bus.ensures c.in_ok-value.ensures in
+    rw c.changed.ensures (replies_read c.args.run.now c.args.e r _ refl refl (change_answers c.set_bus.ensures refl _))

@@ -2,16 +2,11 @@
 use mathlib.Core.Path.{refl}
 use Rattle.ensemble_runner.specs.Numbers.{numbers}
 use Rattle.ensemble_runner.proofs.Readings.{trigger_call_lem}
-use Rattle.ensemble_runner.proofs.Replying.{replies_read, replies_ill, change_answers}
+use Rattle.ensemble_runner.proofs.Replying.{replies_read, change_answers}
 use Rattle.ensemble_runner.proofs.edits.trigger_reply.Goals as goal
 
-pub returns-then-next-eq0 : goal.returns-then-next-eq0
-unfolding numbers
-returns-then-next-eq0 c =
-    let r = trigger_call_lem c.args.run.now c.read_number-voice.ensures c.read_number-frame.ensures in
-    rw c.changed.ensures (replies_read c.args.run.now c.args.e r c.if-next-eq0.true _ refl refl (change_answers c.trigger.ensures refl _))
-
 pub returns : goal.returns
+unfolding numbers
 returns c =
-    let r = trigger_call_lem c.args.run.now c.read_number-voice.ensures c.read_number-frame.ensures in
-    rw c.malformed.ensures (replies_ill c.args.run.now c.args.e r c.if-next-eq0.false c.requires)
+    let r = trigger_call_lem c.args.run.now _ _ c.in_ok-voice.ensures c.in_ok-frame.ensures in
+    rw c.changed.ensures (replies_read c.args.run.now c.args.e r _ refl refl (change_answers c.trigger.ensures refl _))

@@ -1,12 +1,12 @@
 -- `number::reader::last_byte` meets its contract. The invariant: the place that is looked for is the same from `i` on as from `at` on.
 -- Assumes nothing.
-use Prim.Native.Nat.{ℕ, ◌+◌, ◌-◌, ◌≤◌, ◌<◌}
+use Prim.Native.Nat.{ℕ, ◌+◌, ◌≤◌, ◌<◌}
 use mathlib.Core.Path.{◌≡◌, sym, ◌∙◌}
 use mathlib.Core.List.{List}
 use native.Mathlib.Nat.{add-zero, suc-add, add-suc}
 use native.Mathlib.Numerals.{add-one}
 use borrow.Author.Tests.{lt-ltb, le-ltb}
-use lib.ListN.{length, drop, get_or, drop_of_length-le}
+use lib.ListN.{length, drop, get_or}
 use lib.Seq.{drop-cons}
 use Rattle.number.specs.Read.{leading}
 use Rattle.number.proofs.reader.last_byte.Given as goal
@@ -25,12 +25,5 @@ module _ (s : List ℕ) (i : ℕ) where
   unfolding leading
   further h large = rw (drop-cons s i 0 h, le-ltb (get_or s i 0) 128 large, add-one) (suc-add _ _ ∙ sym (add-suc _ _))
 
-  pub none : length s ≤ i → i ≡ place s i
-  unfolding leading
-  none h = rw (drop_of_length-le s h) (sym (add-zero i))
-
 abbrev pub invariant-loop-i : goal.invariant-loop-i
 invariant-loop-i l = place l.s l.i ≡ place l.s l.at
-
-abbrev pub decreases-loop-i : goal.decreases-loop-i
-decreases-loop-i l = length l.s - l.i

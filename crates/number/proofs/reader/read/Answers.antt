@@ -8,14 +8,15 @@ use native.Mathlib.Omega.{arith}
 use borrow.Author.Tests.{le-ltb}
 use lib.ListN.{length, take, drop, get_or, length-drop}
 use lib.Seq.{slice, take-add, drop_at, length-take-le, get_or-drop}
-use Rattle.number.specs.declared.Reading.TheVariants.{Number, CutShort, Bad}
-use Rattle.number.specs.Read.{leading, number_of, read_from, read_at, right_end}
+use Rattle.std.specs.Prelude.{Ok, Err}
+use Rattle.number.specs.declared.Fault.TheVariants.{CutShort, BadNumber}
+use Rattle.number.specs.Read.{Reading, leading, number_of, read_from, read_at, right_end}
 use Rattle.number.proofs.Judge.{judged_by_end, right_fits}
 use Rattle.number.proofs.reader.read.Goals as goal
 
-cut_short : (s : List ℕ) (at last : ℕ) → last ≡ at + leading (drop at s) → length s ≤ last → CutShort ≡ read_at s at
+cut_short : (s : List ℕ) (at : ℕ) → length s ≤ at + leading (drop at s) → Err CutShort ≡ read_at s at
 unfolding read_at read_from
-cut_short s at last e h = rw (le-ltb (leading (drop at s)) (length (drop at s)) (rw length-drop (omega arith)))
+cut_short s at h = rw (le-ltb (leading (drop at s)) (length (drop at s)) (rw length-drop (omega arith)))
 
 module _ (s : List ℕ) (at last : ℕ) (e : last ≡ at + leading (drop at s)) (h : last < length s) where
   inside : leading (drop at s) < length (drop at s)
@@ -33,28 +34,30 @@ module _ (s : List ℕ) (at last : ℕ) (e : last ≡ at + leading (drop at s)) 
   fits : right_end (last - at) (get_or s last 0) ≡ true → number_of (slice at (last + 1) s) < 2 ^ 64
   fits right = rw same_bytes (right_fits (drop at s) inside (sym same_end ∙ right))
 
-  judged_here : cond (right_end (last - at) (get_or s last 0)) (Number (number_of (slice at (last + 1) s)) (last + 1)) Bad ≡ read_at s at
+  judged_here : cond {A = Reading} (right_end (last - at) (get_or s last 0)) (Ok (number_of (slice at (last + 1) s), last + 1)) (Err BadNumber) ≡ read_at s at
   unfolding read_at
   judged_here = rw (same_end, same_bytes, same_next) (sym (judged_by_end (drop at s) inside at))
 
-  accepted : {v : ℕ} → v ≡ number_of (slice at (last + 1) s) → right_end (last - at) (get_or s last 0) ≡ true → Number v (last + 1) ≡ read_at s at
+  accepted : {v : ℕ} → v ≡ number_of (slice at (last + 1) s) → right_end (last - at) (get_or s last 0) ≡ true → ◌≡◌ {A = Reading} (Ok (v, last + 1)) (read_at s at)
   accepted e' right = rw e' (rw right at judged_here)
 
-  refused : right_end (last - at) (get_or s last 0) ≡ false → Bad ≡ read_at s at
+  refused : right_end (last - at) (get_or s last 0) ≡ false → Err BadNumber ≡ read_at s at
   refused wrong = rw wrong at judged_here
 
-pub returns-then-s-last : goal.returns-then-s-last
-returns-then-s-last c = cut_short _ _ _ c.last_byte-last.ensures c.if-s-last.true
+pub returns-in_default : goal.returns-in_default
+returns-in_default c = cut_short _ _ (omega (arith, c.in_default.ensures))
+
+pub returns-then-not-ends_right : goal.returns-then-not-ends_right
+returns-then-not-ends_right c =
+    let (e, h) = c.in-Some.ensures in
+    refused _ _ _ e h (sym c.ends_right.ensures ∙ c.if-not-ends_right.true)
 
 pub value-requires : goal.value-requires
 value-requires c =
-    (omega arith, omega arith, fits _ _ _ c.last_byte-last.ensures c.if-s-last.false (sym c.ends_right.ensures ∙ c.if-ends_right.true))
-
-pub returns-then-ends_right : goal.returns-then-ends_right
-returns-then-ends_right c =
-    accepted _ _ _ c.last_byte-last.ensures c.if-s-last.false c.value.ensures
-    (sym c.ends_right.ensures ∙ c.if-ends_right.true)
+    let (e, h) = c.in-Some.ensures in
+    (omega arith, omega arith, fits _ _ _ e h (sym c.ends_right.ensures ∙ c.if-not-ends_right.false))
 
 pub returns : goal.returns
 returns c =
-    refused _ _ _ c.last_byte-last.ensures c.if-s-last.false (sym c.ends_right.ensures ∙ c.if-ends_right.false)
+    let (e, h) = c.in-Some.ensures in
+    accepted _ _ _ e h c.value.ensures (sym c.ends_right.ensures ∙ c.if-not-ends_right.false)

@@ -1,7 +1,5 @@
 -- `number::reader::value` meets its contract. The invariant: `sum` is the value of the bytes from `i` up to `end`. It fits, since that of
 -- all bytes does. Assumes nothing.
-use Prim.Native.Nat.{◌-◌}
-use mathlib.Core.Path.{◌≡◌}
 use native.Mathlib.Omega.{arith}
 use lib.Seq.{slice_empty}
 use Rattle.number.specs.Read.{number_of}
@@ -15,24 +13,13 @@ loop-i-init c = record { from = c.requires.0; within = omega arith; sum_is = rw 
 pub overflow_mul-sum : goal.overflow_mul-sum
 overflow_mul-sum c = let pre = c.requires in omega (arith, fits c.loop-i.invariant c.loop-i-test.true pre.1 pre.2)
 
-pub bounds-s-i : goal.bounds-s-i
-bounds-s-i c = omega arith
-
 pub overflow_add-sum : goal.overflow_add-sum
 overflow_add-sum c = let pre = c.requires in
-    omega (arith, c.wide.ensures, fits c.loop-i.invariant c.loop-i-test.true pre.1 pre.2)
-
-pub loop-i-smaller : goal.loop-i-smaller
-loop-i-smaller c = omega arith
+    omega (arith, c.from.ensures, fits c.loop-i.invariant c.loop-i-test.true pre.1 pre.2)
 
 pub loop-i-preserved : goal.loop-i-preserved
 loop-i-preserved c = record {
   from = omega arith;
   within = omega arith;
-  sum_is = rw c.wide.ensures (turn c.loop-i.invariant c.loop-i-test.true c.requires.1);
+  sum_is = rw c.from.ensures (turn c.loop-i.invariant c.loop-i-test.true c.requires.1);
 }
-
-pub returns : goal.returns
-returns c =
-    let e : c.loop-i.i ≡ c.args.at = omega arith in
-    rw e at c.loop-i.invariant.sum_is

@@ -40,6 +40,3 @@ module _ {s : List ℕ} {at end sum i : ℕ} (p : Summing s at end sum i) (taken
 
 abbrev pub invariant-loop-i : goal.invariant-loop-i
 invariant-loop-i l = Summing l.s l.at l.end l.sum l.i
-
-abbrev pub decreases-loop-i : goal.decreases-loop-i
-decreases-loop-i l = l.i

@@ -26,5 +26,5 @@ returns c =
     together _ _ _ _ _ _
     c.modulated-at.ensures
     c.bends-bends.ensures
-    c.path_segment.ensures
+    c.path_segment-segment.ensures
     c.eval.ensures

@@ -1,7 +1,4 @@
 -- `share` meets its contract, by its cases. Assumes nothing.
-use native.Mathlib.Omega.{arith}
-use lib.Dec.{le→leb}
-use lib.Ieee.{in_float}
 use borrow.Author.Tests.{lt-ltb, le-ltb}
 use Rattle.path_segments.specs.Times.{share_of}
 use Rattle.path_segments.proofs.timing.share.Goals as goal
@@ -9,14 +6,6 @@ use Rattle.path_segments.proofs.timing.share.Goals as goal
 pub returns-then-total : goal.returns-then-total
 unfolding share_of
 returns-then-total c = rw c.if-total.true
-
-pub int_to_float-result : goal.int_to_float-result
-unfolding in_float
-int_to_float-result c = le→leb c.args.j 16777216 (omega arith)
-
-pub int_to_float-result-then-n-gt0 : goal.int_to_float-result-then-n-gt0
-unfolding in_float
-int_to_float-result-then-n-gt0 c = le→leb c.args.n 16777216 (omega arith)
 
 pub returns-then-n-gt0 : goal.returns-then-n-gt0
 unfolding share_of

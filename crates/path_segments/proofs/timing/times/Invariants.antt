@@ -1,5 +1,5 @@
 -- `times` meets its contract. The loop's invariant: the first j times are stored, and j legs are summed. Assumes nothing.
-use Prim.Native.Nat.{ℕ, ◌-◌, ◌≤◌}
+use Prim.Native.Nat.{ℕ}
 use mathlib.Core.List.{List}
 use lib.Ieee.{Float}
 use mathlib.Core.Path.{◌≡◌}
@@ -14,7 +14,4 @@ unfolding time_at
 next_time legs n j sum whole r a b e = rw (e, b, a)
 
 abbrev pub invariant-loop-j : goal.invariant-loop-j
-invariant-loop-j l = (l.j ≤ l.n) × (l.out ≡ padded 65 f32_0 (tabulate (time_at l.legs l.n) l.j)) × (l.sum ≡ sum_to l.legs l.j)
-
-abbrev pub decreases-loop-j : goal.decreases-loop-j
-decreases-loop-j l = l.n - l.j
+invariant-loop-j l = (l.out ≡ padded 65 f32_0 (tabulate (time_at l.legs l.n) l.j)) × (l.sum ≡ sum_to l.legs l.j)

@@ -1,21 +1,18 @@
--- `total` meets its contract. The loop's invariant: the first j legs are summed. Assumes nothing.
-use Prim.Native.Nat.{◌-◌}
-use mathlib.Core.Path.{◌≡◌, refl}
-use native.Mathlib.Numerals.{add-one}
-use native.Mathlib.Omega.{arith}
-use borrow.Author.Rules.{rules}
+-- `total` meets its contract. The loop's invariant: the first legs are summed. Assumes nothing.
+use Rattle.std.proofs.Common.{◌<◌, refl, add-one, arith}
+use lib.Ieee.{nan}
+use Rattle.std.proofs.lemmas.List.{get_or-take, length-take-le}
 use Rattle.path_segments.specs.Times.{sum_to}
 use Rattle.path_segments.proofs.timing.total.Goals as goal
 
-pub loop-j-init : goal.loop-j-init
+pub loop-leg-init : goal.loop-leg-init
 unfolding sum_to
-loop-j-init c = (search rules, refl)
+loop-leg-init c = refl
 
-pub loop-j-preserved : goal.loop-j-preserved
+pub loop-leg-preserved : goal.loop-leg-preserved
 unfolding sum_to
-loop-j-preserved c = (omega arith, rw (c.loop-j.invariant.1, add-one))
-
-pub returns : goal.returns
-returns c =
-    let e : c.loop-j.j ≡ c.args.n = omega arith in
-    rw (← e) c.loop-j.invariant.1
+loop-leg-preserved c =
+    let n = c.args.n in
+    let legs = c.args.legs.now in
+    let h : c.loop-leg.leg-index < n = omega (arith, length-take-le n legs (omega arith)) in
+    rw (c.loop-leg.invariant, get_or-take n legs c.loop-leg.leg-index nan h, add-one)

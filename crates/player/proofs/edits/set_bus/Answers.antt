@@ -27,11 +27,6 @@ pub bounds-buses-k-2 : goal.bounds-buses-k-2
 bounds-buses-k-2 c =
     bus_few _ c.requires _ _ _ c.bus_answer-answer.ensures c.if-answer-ne0.false
 
-pub of-requires : goal.of-requires
-of-requires c =
-    let i = c.requires.lfo_in in
-    (i.shape_in.short, i.path_in.short)
-
 pub returns : goal.returns
 returns c =
     bus_set _ c.requires _ _ _ c.bus_answer-answer.ensures c.if-answer-ne0.false c.if-buses-k.false _ c.of.ensures _ c.edited-player.ensures

@@ -6,10 +6,6 @@ pub returns-then-answer-ne0 : goal.returns-then-answer-ne0
 returns-then-answer-ne0 c =
     path_refused _ c.requires _ _ c.path_answer-answer.ensures c.if-answer-ne0.true
 
-pub of-requires : goal.of-requires
-of-requires c =
-    (c.requires.lfo_in.shape_in.short, c.path_of-path.ensures.1)
-
 pub returns : goal.returns
 returns c =
     path_set _ c.requires _ _ c.path_answer-answer.ensures c.if-answer-ne0.false _ c.path_of-path.ensures.0 _ c.of.ensures _ c.edited-player.ensures

@@ -11,14 +11,9 @@ pub returns-in_default : goal.returns-in_default
 returns-in_default c =
     settings_unknown _ c.requires _ _ c.settings_answer-answer.ensures c.if-answer-ne0.false (sym c.from_codes.ensures ∙ c.in_default.is)
 
-pub of-requires : goal.of-requires
-of-requires c =
-    let i = c.requires.lfo_in in
-    (i.shape_in.short, i.path_in.short)
-
 pub returns : goal.returns
 returns c =
-    let known = sym c.from_codes.ensures ∙ c.in-Known.is in
+    let known = sym c.from_codes.ensures ∙ c.in-Some.is in
     -- the last field of the settings is a u16
-    let grid = c.clamped-settings.type_inv.1.1.1.1.1.1.1.1.1.1.1.1.1.0.1 in
-    settings_set _ c.requires _ _ c.settings_answer-answer.ensures c.if-answer-ne0.false _ _ known c.clamped-settings.ensures grid _ c.of.ensures _ c.edited-player.ensures
+    let grid = c.clamped.type_inv.1.1.1.1.1.1.1.1.1.1.1.1.1.0.1 in
+    settings_set _ c.requires _ _ c.settings_answer-answer.ensures c.if-answer-ne0.false _ _ known c.clamped.ensures grid _ c.of.ensures _ c.edited-player.ensures

@@ -6,10 +6,6 @@ pub returns-then-answer-ne0 : goal.returns-then-answer-ne0
 returns-then-answer-ne0 c =
     shape_refused _ c.requires _ _ c.shape_answer-answer.ensures c.if-answer-ne0.true
 
-pub of-requires : goal.of-requires
-of-requires c =
-    (c.shape_of-shape.ensures.1, c.requires.lfo_in.path_in.short)
-
 pub returns : goal.returns
 returns c =
     shape_set _ c.requires _ _ c.shape_answer-answer.ensures c.if-answer-ne0.false _ c.shape_of-shape.ensures.0 _ c.of.ensures _ c.edited-player.ensures

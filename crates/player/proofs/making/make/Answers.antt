@@ -6,4 +6,4 @@ pub returns : goal.returns
 returns c =
     -- the last field of the settings is a u16
     let grid = c.first_settings.type_inv.1.1.1.1.1.1.1.1.1.1.1.1.1.0.1 in
-    makes_player _ _ _ c.settings_answer-answer.ensures _ grid c.first_settings.ensures _ _ c.new-page.ensures c.new_deck-deck.ensures
+    makes_player _ _ _ c.settings_answer-answer.ensures _ grid c.first_settings.ensures _ _ c.new.ensures c.new_deck.ensures

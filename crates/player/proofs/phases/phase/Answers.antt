@@ -16,5 +16,5 @@ returns-in_default c =
 pub returns : goal.returns
 unfolding phase_result_answer
 returns c =
-    let known = sym c.from_codes.ensures ∙ c.in-Known.is in
+    let known = sym c.from_codes.ensures ∙ c.in-Some.is in
     phase_at_lem _ _ _ c.phase_answer-answer.ensures c.if-answer-ne0.false _ known _ c.phase.ensures

@@ -1,7 +1,7 @@
 -- `play` meets its contract. Assumes nothing.
 use mathlib.Core.Path.{sym, ◌∙◌}
 use native.Mathlib.Omega.{arith}
-use Rattle.player.proofs.Blocks.{loopback_small, block_refused, block_unknown, within_life, count_small, block_stretch, block_played}
+use Rattle.player.proofs.Blocks.{block_refused, block_unknown, within_life, count_small, block_stretch, block_played}
 use Rattle.player.proofs.playing.play.Goals as goal
 
 pub returns-then-answer-ne0 : goal.returns-then-answer-ne0
@@ -13,20 +13,16 @@ returns-in_default c =
     rw c.refused-in_default.ensures
     (block_unknown _ c.requires _ _ _ _ _ _ c.block_answer-answer.ensures c.if-answer-ne0.false (sym c.from_codes.ensures ∙ c.in_default.is))
 
-pub loop_point-from-requires : goal.loop_point-from-requires
-loop_point-from-requires c =
-    loopback_small c.args.p c.requires
-
 pub prepare-prepared-requires : goal.prepare-prepared-requires
 prepare-prepared-requires c =
     let a = c.args in
-    count_small a.p c.requires a.t a.frames a.restart a.x.now a.y.now _ c.block_answer-answer.ensures c.if-answer-ne0.false _ (sym c.from_codes.ensures ∙ c.in-Known.is)
+    count_small a.p c.requires a.t a.frames a.restart a.x.now a.y.now _ c.block_answer-answer.ensures c.if-answer-ne0.false _ (sym c.from_codes.ensures ∙ c.in-Some.is)
 
 pub render_parts-r-requires : goal.render_parts-r-requires
 render_parts-r-requires c =
     let a = c.args in
-    block_stretch a.p c.requires a.t a.frames a.restart a.x.now a.y.now _ c.block_answer-answer.ensures c.if-answer-ne0.false _ (sym c.from_codes.ensures ∙ c.in-Known.is)
-    _ _ c.point_count-n.ensures c.loop_point-from.ensures _ c.prepare-prepared.ensures
+    block_stretch a.p c.requires a.t a.frames a.restart a.x.now a.y.now _ c.block_answer-answer.ensures c.if-answer-ne0.false _ (sym c.from_codes.ensures ∙ c.in-Some.is)
+    _ _ c.point_count.ensures c.loop_point.ensures _ c.prepare-prepared.ensures
 
 pub overflow_add-deck : goal.overflow_add-deck
 overflow_add-deck c =
@@ -38,6 +34,6 @@ overflow_add-deck c =
 pub returns : goal.returns
 returns c =
     let a = c.args in
-    block_played a.p c.requires a.t a.frames a.restart a.x.now a.y.now _ c.block_answer-answer.ensures c.if-answer-ne0.false _ (sym c.from_codes.ensures ∙ c.in-Known.is)
-    _ _ c.point_count-n.ensures c.loop_point-from.ensures _ c.prepare-prepared.ensures _ c.pending-at.ensures _ _ _ _
+    block_played a.p c.requires a.t a.frames a.restart a.x.now a.y.now _ c.block_answer-answer.ensures c.if-answer-ne0.false _ (sym c.from_codes.ensures ∙ c.in-Some.is)
+    _ _ c.point_count.ensures c.loop_point.ensures _ c.prepare-prepared.ensures _ c.pending.ensures _ _ _ _
     c.render_parts-r.ensures c.finished-finished.ensures

@@ -6,14 +6,14 @@ pub returns-then-c : goal.returns-then-c
 unfolding forward_once
 returns-then-c c = simp c.if-c.true
 
-pub returns-in-None : goal.returns-in-None
+pub returns-in_default-2 : goal.returns-in_default-2
 unfolding forward_once forward_loop
-returns-in-None c = simp (c.if-c.false, c.in-None.is)
+returns-in_default-2 c = simp (c.if-c.false, c.in_default.is)
 
-pub returns-then-l : goal.returns-then-l
+pub returns-in-Some : goal.returns-in-Some
 unfolding forward_once forward_loop
-returns-then-l c = simp (c.rem_euclid_f64.ensures, c.if-c.false, c.in-At.is, c.if-l.true)
+returns-in-Some c = simp (c.rem_euclid_f64.ensures, c.if-c.false, c.in-Some.is, c.if-l.true)
 
-pub returns-else-l : goal.returns-else-l
+pub returns-in_default : goal.returns-in_default
 unfolding forward_once forward_loop
-returns-else-l c = simp (c.if-c.false, c.in-At.is, c.if-l.false)
+returns-in_default c = simp (c.if-c.false, c.in-Some.is, c.if-l.false)

@@ -1,7 +1,9 @@
 -- `path_finite` meets its contract. Assumes nothing.
-use Rattle.questions.specs.Tests.{path_finite}
+use borrow.Author.Rules.{rules}
+use Rattle.curves.specs.Given.{no_path_point_codes}
+use Rattle.questions.specs.Tests.{path_point_finite, path_finite}
 use Rattle.questions.proofs.curve_tests.path_finite.Goals as goal
 
 pub returns : goal.returns
 unfolding path_finite
-returns c = rw c.path_points_finite.ensures
+returns c = rw (c.every_kept.ensures path_point_finite no_path_point_codes (λ p r e. search rules))

@@ -2,8 +2,8 @@
 use Rattle.settings.proofs.Known.{settings_known_lem}
 use Rattle.questions.proofs.settings_tests.settings_known.Goals as goal
 
-pub returns-in-Known : goal.returns-in-Known
-returns-in-Known c = rw (← settings_known_lem, ← c.from_codes.ensures, c.in-Known.is)
+pub returns-in-Some : goal.returns-in-Some
+returns-in-Some c = rw (← settings_known_lem, ← c.from_codes.ensures, c.in-Some.is)
 
-pub returns-in-Unknown : goal.returns-in-Unknown
-returns-in-Unknown c = rw (← settings_known_lem, ← c.from_codes.ensures, c.in-Unknown.is)
+pub returns-in-None : goal.returns-in-None
+returns-in-None c = rw (← settings_known_lem, ← c.from_codes.ensures, c.in-None.is)

@@ -2,8 +2,8 @@
 use Rattle.settings.proofs.Known.{transport_is_known}
 use Rattle.questions.proofs.settings_tests.transport_known.Goals as goal
 
-pub returns-in-Known : goal.returns-in-Known
-returns-in-Known c = rw (← transport_is_known, ← c.from_codes.ensures, c.in-Known.is)
+pub returns-in-Some : goal.returns-in-Some
+returns-in-Some c = rw (← transport_is_known, ← c.from_codes.ensures, c.in-Some.is)
 
-pub returns-in-Unknown : goal.returns-in-Unknown
-returns-in-Unknown c = rw (← transport_is_known, ← c.from_codes.ensures, c.in-Unknown.is)
+pub returns-in-None : goal.returns-in-None
+returns-in-None c = rw (← transport_is_known, ← c.from_codes.ensures, c.in-None.is)

@@ -1,21 +1,22 @@
 -- `random::xorshift::draw` meets its contract. Assumes nothing.
-use Rattle.std.proofs.Common.{◌≡◌, ℕ, ◌*◌, ◌/◌, ◌%◌, ◌^◌, ◌<◌, false, pos, sym, refl, ap, ◌∙◌, subst, le_of_lt, arith, le→leb}
+use Rattle.std.proofs.Common.{◌≡◌, ℕ, ◌*◌, ◌/◌, ◌%◌, ◌^◌, ◌<◌, false, pos, sym, ap, subst, arith}
 use lib.Ieee as Ieee
 use lib.Ieee.{Float, fin, binary32}
-use Rattle.random.specs.Draw.{stepped, output, top24, fraction, drawn, DrawnFrom}
+use Rattle.random.specs.Mix.{xor_shr}
+use Rattle.random.specs.Draw.{xor_shl, stepped, output, top24, fraction, drawn, DrawnFrom}
 use Rattle.random.specs.declared.Draw.{Draw}
 use Rattle.random.proofs.xorshift.Words.{step_alive}
 use Rattle.random.proofs.xorshift.Fractions.{fraction_is, fraction_exact, is_number, at_least_zero, below_one}
 use Rattle.random.proofs.xorshift.draw.Goals as goal
 
 -- the top of a number of 64 bits has 24
-top_lt : (r n : ℕ) → r ≡ n % 2 ^ 64 → r / 2 ^ 40 < 2 ^ 24
-top_lt r n e = omega arith
+top_lt : (n : ℕ) → n % 2 ^ 64 / 2 ^ 40 < 2 ^ 24
+top_lt n = omega arith
 
 drawn_from : (word : ℕ) → DrawnFrom word (drawn word)
 unfolding drawn top24 output
 drawn_from word =
-    let small = top_lt (output (stepped word)) (stepped word * 0x2545F4914F6CDD1D) refl in
+    let small = top_lt (stepped word * 0x2545F4914F6CDD1D) in
     let exact = fraction_exact (top24 (stepped word)) small in
     record {
       exact = exact;
@@ -25,24 +26,22 @@ drawn_from word =
       alive = step_alive word;
     }
 
--- what the program returns, by what its call ensures
-abbrev returned : ℕ → ℕ → Draw
-returned word r =
-    record { word = stepped word; value = Ieee.div binary32 (Ieee.of_int binary32 (pos (r / 2 ^ 40))) (fin false 1 (pos 24)) }
+-- what the program returns
+abbrev returned : ℕ → Draw
+returned word =
+    record {
+      word = stepped word;
+      value = Ieee.div binary32 (Ieee.of_int binary32 (pos (stepped word * 0x2545F4914F6CDD1D % 2 ^ 64 / 2 ^ 40))) (fin false 1 (pos 24));
+    }
 
-returned_is : (word r : ℕ) → r ≡ stepped word * 0x2545F4914F6CDD1D % 2 ^ 64 → returned word r ≡ drawn word
+returned_is : (word : ℕ) → returned word ≡ drawn word
 unfolding drawn top24 output
-returned_is word r e =
+returned_is word =
     ap (λ (v : Float). record { word = stepped word; value = v })
-    (fraction_is (r / 2 ^ 40) (top_lt r (stepped word * 0x2545F4914F6CDD1D) e) ∙ ap (λ (n : ℕ). fraction (n / 2 ^ 40)) e)
-
-pub int_to_float-result : goal.int_to_float-result
-unfolding Ieee.in_float
-int_to_float-result c = le→leb _ _ (le_of_lt (top_lt _ _ c.wrapping_mul_u64-top.ensures.wraps))
+    (fraction_is (stepped word * 0x2545F4914F6CDD1D % 2 ^ 64 / 2 ^ 40) (top_lt (stepped word * 0x2545F4914F6CDD1D)))
 
 pub returns : goal.returns
-unfolding stepped Ieee.of_bits
+unfolding stepped xor_shr xor_shl Ieee.of_bits
 returns c =
-    let word = c.args.word in
-    let is = returned_is word c.wrapping_mul_u64-top.result c.wrapping_mul_u64-top.ensures.wraps in
-    record { value = is; drawn_from = subst (λ (d : Draw). DrawnFrom word d) (sym is) (drawn_from word) }
+    let is = returned_is c.args.word in
+    record { value = is; drawn_from = subst (λ (d : Draw). DrawnFrom c.args.word d) (sym is) (drawn_from c.args.word) }

@@ -1,42 +1,9 @@
 -- `block_turn` meets its contract. Assumes nothing.
-use native.Mathlib.Omega.{arith}
-use mathlib.Core.Path.{refl}
 use Rattle.runner.proofs.Readings.{block_call_lem}
-use Rattle.runner.proofs.Replying.{replies_ill}
-use Rattle.runner.proofs.Turning.{same_turns, reads_turns}
 use Rattle.runner.proofs.block.block_turn.Goals as goal
-
-pub play_anew-requires : goal.play_anew-requires
-play_anew-requires c =
-    (c.requires, omega arith, omega arith)
-
-pub returns-then-next-eq0 : goal.returns-then-next-eq0
-returns-then-next-eq0 c =
-    let run = c.args.run.now in
-    let r =
-    block_call_lem
-    run
-    c.read_transport-t.ensures
-    c.read_number-frames.ensures
-    c.read_restart-restart.ensures
-    c.read_below-x.ensures.0
-    c.read_below-y.ensures.0 in
-    reads_turns c.args.p r c.if-next-eq0.true (c.play_anew.ensures run)
-
-pub write_reply-requires : goal.write_reply-requires
-write_reply-requires c =
-    rw c.malformed.ensures (refl, omega arith, c.requires)
 
 pub returns : goal.returns
 returns c =
     let run = c.args.run.now in
-    let r =
-    block_call_lem
-    run
-    c.read_transport-t.ensures
-    c.read_number-frames.ensures
-    c.read_restart-restart.ensures
-    c.read_below-x.ensures.0
-    c.read_below-y.ensures.0 in
-    let ill = replies_ill run c.args.p r c.if-next-eq0.false c.requires in
-    same_turns (λ most. ill.given_is most) (rw c.malformed.ensures at (c.write_reply.ensures run))
+    let r = block_call_lem run _ _ _ _ _ c.in_ok-transport.ensures c.in_ok-frames.ensures c.in_ok-restart.ensures c.in_ok-x_len.ensures.reads c.in_ok-y_len.ensures.reads in
+    rw (← r) (c.play_anew.ensures run)

@@ -1,23 +1,6 @@
 -- `play_anew` meets its contract. Assumes nothing.
-use native.Mathlib.Omega.{arith}
-use lib.ListN.{length-take}
-use Rattle.outputs.proofs.Buffers.{sevens_long, sevens_first}
+use Rattle.outputs.proofs.Buffers.{sevens_first}
 use Rattle.runner.proofs.block.play_anew.Goals as goal
-
-pub slice_bounds-play-end : goal.slice_bounds-play-end
-slice_bounds-play-end c =
-    let long = sevens_long 8192 c.full-x.ensures in
-    simp length-take (omega arith)
-
-pub slice_bounds-play-end-2 : goal.slice_bounds-play-end-2
-slice_bounds-play-end-2 c =
-    let long = sevens_long 8192 c.full-y.ensures in
-    simp length-take (omega arith)
-
-pub play-requires : goal.play-requires
-play-requires c =
-    let p = c.requires in
-    (p.0, simp length-take (omega arith), simp length-take (omega arith))
 
 pub returns : goal.returns
 returns c =

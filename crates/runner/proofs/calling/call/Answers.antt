@@ -1,48 +1,10 @@
 -- `call` meets its contract. Assumes nothing.
-use Prim.Native.Nat.{ℕ}
-use mathlib.Core.Path.{◌≡◌, refl, ap, ◌∙◌}
-use mathlib.Core.List.{List}
-use lib.ListN.{get_or}
-use Rattle.fields.specs.declared.reader.Place.{Place}
-use Rattle.fields.specs.Fields.{number}
-use Rattle.fields.specs.Places.{onward, Reads}
-use Rattle.outputs.specs.Output.{none}
-use Rattle.outputs.proofs.Tags.{tag_then}
-use Rattle.player.specs.declared.Player.{Player}
-use Rattle.runner.specs.declared.Turn.{Turn}
-use Rattle.runner.specs.Asked.{by_tag, asked}
-use Rattle.runner.specs.Promises.{given_of, Turns, TurnsOn}
+use Rattle.runner.proofs.Replying.{replies_ill}
 use Rattle.runner.proofs.Turning.{same_turns}
 use Rattle.runner.proofs.calling.call.Goals as goal
 
--- a call behind its tag
-behind : (run : List ℕ) (at : ℕ) (p : Player) {tag : ℕ} {from : Place} → Reads (number run) (record { at = at; fault = 0 }) tag from → (k : ℕ) → tag ≡ k
-    → {x : List ℕ} {place : ℕ} {t : Turn} {y : List ℕ} → TurnsOn (get_or by_tag k none) run from p x place t y → Turns run (given_of p run (asked run at)) x place t y
-behind run at p {from = from} r k e =
-    same_turns (λ most. ap (λ v. given_of p run v most) (tag_then by_tag run at r ∙ ap (λ t. onward from (get_or by_tag t none run)) e))
-
-pub returns-then-tag-eq5 : goal.returns-then-tag-eq5
-unfolding by_tag
-returns-then-tag-eq5 c =
-    let a = c.args in
-    behind a.run.now a.at a.p c.read_number-tag.ensures 5 c.if-tag-eq5.true c.block_turn.ensures
-
-pub returns-then-tag-eq8 : goal.returns-then-tag-eq8
-unfolding by_tag
-returns-then-tag-eq8 c =
-    let a = c.args in
-    behind a.run.now a.at a.p c.read_number-tag.ensures 8 c.if-tag-eq8.true c.legs_turn.ensures
-
-pub reply_of-requires : goal.reply_of-requires
-reply_of-requires c =
-    (c.requires, c.if-tag-eq5.false, c.if-tag-eq8.false)
-
-pub write_reply-requires : goal.write_reply-requires
-write_reply-requires c = let r = c.reply_of.ensures in (r.long, r.short, r.valid)
-
-pub returns : goal.returns
-returns c =
-    let a = c.args in
-    let run = a.run.now in
-    behind run a.at a.p c.read_number-tag.ensures _ refl
-    (same_turns c.reply_of.ensures.given_is (c.write_reply.ensures run))
+pub returns-in-Err : goal.returns-in-Err
+returns-in-Err c =
+    let run = c.args.run.now in
+    let (ill, same) = c.in-Err.ensures in
+    same_turns (replies_ill run c.args.p ill c.requires).given_is (rw (c.malformed.ensures, same) at (c.write_reply.ensures run))

@@ -7,10 +7,7 @@ use Rattle.player.specs.Player.{state_of, Valid}
 use Rattle.runner.specs.Output.{players}
 use Rattle.runner.proofs.calling.calls.Given as goal
 
-abbrev pub invariant-loop-turn : goal.invariant-loop-turn
-invariant-loop-turn l = (l.turn ≤ length l.run)
-    × Goes players l.run l.initial.out l.start (given players (length l.run) (state_of l.initial.p) l.run l.from) l.out l.place (length l.run - l.turn) (state_of l.p) l.at
+abbrev pub invariant-loop : goal.invariant-loop
+invariant-loop l = (l.counter ≤ length l.run)
+    × Goes players l.run l.initial.out l.start (given players (length l.run) (state_of l.initial.p) l.run l.from) l.out l.place (length l.run - l.counter) (state_of l.p) l.at
     × Valid l.p
-
-abbrev pub decreases-loop-turn : goal.decreases-loop-turn
-decreases-loop-turn l = length l.run - l.turn

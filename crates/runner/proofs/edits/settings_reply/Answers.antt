@@ -2,16 +2,11 @@
 use mathlib.Core.Path.{refl}
 use Rattle.runner.specs.Numbers.{call_numbers}
 use Rattle.runner.proofs.Readings.{settings_call_lem}
-use Rattle.runner.proofs.Replying.{replies_read, replies_ill, edit_answers}
+use Rattle.runner.proofs.Replying.{replies_read, edit_answers}
 use Rattle.runner.proofs.edits.settings_reply.Goals as goal
 
-pub returns-then-next-eq0 : goal.returns-then-next-eq0
-unfolding call_numbers
-returns-then-next-eq0 c =
-    let r = settings_call_lem c.args.run.now c.read_settings-c.ensures in
-    rw c.edited.ensures (replies_read c.args.run.now c.args.p r c.if-next-eq0.true _ refl refl (edit_answers c.set_settings.ensures refl _))
-
 pub returns : goal.returns
+unfolding call_numbers
 returns c =
-    let r = settings_call_lem c.args.run.now c.read_settings-c.ensures in
-    rw c.malformed.ensures (replies_ill c.args.run.now c.args.p r c.if-next-eq0.false c.requires)
+    let r = settings_call_lem c.args.run.now _ c.in_ok-codes.ensures in
+    rw c.edited.ensures (replies_read c.args.run.now c.args.p r _ refl refl (edit_answers c.set_settings.ensures refl _))

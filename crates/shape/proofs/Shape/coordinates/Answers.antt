@@ -1,30 +1,14 @@
--- `Shape::coordinates` meets its contract. The loop's invariant: the first i of both arrays are filled. Assumes nothing.
-use Prim.Native.Nat.{◌-◌}
-use mathlib.Core.Path.{◌≡◌, refl}
-use native.Mathlib.Numerals.{add-one}
-use native.Mathlib.Omega.{arith}
+-- `Shape::coordinates` meets its contract: both arrays are filled with what is read. Assumes nothing.
+use lib.ListN.{get_or}
 use borrow.Author.Rules.{rules}
-use Rattle.floatlaws.specs.Numbers.{f32_0}
-use Rattle.listlaws.specs.Tables.{tabulate}
+use Rattle.shape.specs.Points.{no_point}
 use Rattle.shape.specs.Shapes.{coordinates_of}
-use Rattle.listlaws.proofs.Tabulation.{fill_more}
 use Rattle.shape.proofs.Shape.coordinates.Goals as goal
 
-pub loop-i-init : goal.loop-i-init
-unfolding coordinates_of tabulate
-loop-i-init c = (search rules, refl, refl)
-
-pub loop-i-preserved : goal.loop-i-preserved
-unfolding coordinates_of
-loop-i-preserved c =
-    let inv = c.loop-i.invariant in (
-      omega arith,
-      rw (inv.1, add-one) (fill_more _ 64 f32_0 _ (omega arith)),
-      rw (inv.2, add-one) (fill_more _ 64 f32_0 _ (omega arith)),
-    )
-
 pub returns : goal.returns
+unfolding coordinates_of
 returns c =
-    let inv = c.loop-i.invariant in
-    let e : c.loop-i.i ≡ c.args.self.len = omega arith in
-    rw (inv.1, inv.2, e)
+    rw (
+      c.filled.ensures (λ i. (get_or c.args.self.points i no_point).x) (λ i r h e. search rules),
+      c.filled-2.ensures (λ i. (get_or c.args.self.points i no_point).y) (λ i r h e. search rules),
+    )

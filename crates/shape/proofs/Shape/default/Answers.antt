@@ -1,6 +1,5 @@
 -- `Shape::default` meets its contract: antt computes the sort. Assumes nothing.
 use mathlib.Core.Path.{◌≡◌, refl}
-use mathlib.Core.List.{List}
 use lib.ListN.{set, replicate}
 use lib.Ieee.{lt, neg, of_bits}
 use Rattle.floatlaws.specs.Numbers.{f32_0, f32_½, f32_1}
@@ -16,9 +15,9 @@ sorted : new_shape (set (set (replicate 64 blank) 1 (new_point f32_½ f32_1)) 2 
 unfolding shape_of default_shape sorted_array sorted_points insert_point slot_of last_where inserted clamped_point clamp_of lt neg of_bits
 sorted = refl
 
-together : (l : List Point) (p q : Point) (s : Shape) → l ≡ replicate 64 blank → p ≡ new_point f32_½ f32_1 → q ≡ new_point f32_1 f32_0 → s ≡ new_shape (set (set l 1 p) 2 q) 3 → s ≡ default_shape
-together l p q s a b d e = rw (e, d, b, a) sorted
+together : (b p q : Point) (s : Shape) → b ≡ blank → p ≡ new_point f32_½ f32_1 → q ≡ new_point f32_1 f32_0 → s ≡ new_shape (set (set (replicate 64 b) 1 p) 2 q) 3 → s ≡ default_shape
+together b p q s a h d e = rw (e, d, h, a) sorted
 
 pub returns : goal.returns
 returns c =
-    (together _ _ _ _ c.blank_points-points.ensures c.new.ensures c.new-2.ensures c.new-3.ensures.0, c.new-3.ensures.1)
+    (together _ _ _ _ c.new-points.ensures c.new.ensures c.new-2.ensures c.new-3.ensures.0, c.new-3.ensures.1)

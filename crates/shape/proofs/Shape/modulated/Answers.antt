@@ -1,9 +1,7 @@
 -- `Shape::modulated` meets its contract. The loop's invariant: the first i of both arrays are filled, and `floor` is the last x. Assumes nothing.
-use Prim.Native.Nat.{◌-◌}
-use mathlib.Core.Path.{◌≡◌, refl}
+use mathlib.Core.Path.{refl}
 use native.Mathlib.Numerals.{add-one}
 use native.Mathlib.Omega.{arith}
-use borrow.Author.Rules.{rules}
 use Rattle.floatlaws.specs.Numbers.{f32_0}
 use Rattle.listlaws.specs.Tables.{tabulate}
 use Rattle.shape.specs.Shapes.{floor_at, modulated_of}
@@ -13,23 +11,16 @@ use Rattle.shape.proofs.Shape.modulated.Goals as goal
 
 pub loop-i-init : goal.loop-i-init
 unfolding modulated_of tabulate floor_at
-loop-i-init c = (search rules, refl, refl, refl)
+loop-i-init c = (refl, refl, refl)
 
 pub loop-i-preserved : goal.loop-i-preserved
 unfolding modulated_of
 loop-i-preserved c =
     let args = c.args in
     let inv = c.loop-i.invariant in
-    let x = next_x args.self.points args.buses.now c.loop-i.i _ _ _ inv.3 c.moved.ensures c.clamp_f32-floor.ensures in
+    let x = next_x args.self.points args.buses.now c.loop-i.i _ _ _ inv.2 c.moved.ensures c.clamp-floor.ensures in
     let y = next_y args.self.points args.buses.now c.loop-i.i _ c.placed.ensures in (
-      omega arith,
-      rw (inv.1, x, add-one) (fill_more _ 64 f32_0 _ (omega arith)),
-      rw (inv.2, y, add-one) (fill_more _ 64 f32_0 _ (omega arith)),
+      rw (inv.0, x, add-one) (fill_more _ 64 f32_0 _ (omega arith)),
+      rw (inv.1, y, add-one) (fill_more _ 64 f32_0 _ (omega arith)),
       rw (x, add-one),
     )
-
-pub returns : goal.returns
-returns c =
-    let inv = c.loop-i.invariant in
-    let e : c.loop-i.i ≡ c.args.self.len = omega arith in
-    rw (inv.1, inv.2, e)

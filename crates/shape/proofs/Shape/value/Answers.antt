@@ -23,5 +23,5 @@ returns c =
     together _ _ _ _ _ _
     c.coordinates-at.ensures
     c.curves-curves.ensures
-    c.drawn_segment.ensures
+    c.drawn_segment-segment.ensures
     c.eval.ensures

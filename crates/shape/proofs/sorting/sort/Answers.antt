@@ -1,24 +1,12 @@
--- `sort` meets its contract. The loop's invariant: the first i points are sorted. The measure is what is left. Assumes nothing.
-use Prim.Native.Nat.{◌-◌}
-use mathlib.Core.Path.{◌≡◌}
+-- `sort` meets its contract. The loop's invariant: the first n points are sorted. Assumes nothing.
 use native.Mathlib.Numerals.{add-one}
-use native.Mathlib.Omega.{arith}
-use borrow.Author.Rules.{rules}
 use Rattle.shape.specs.Points.{sorted_points, sorted_array}
 use Rattle.shape.proofs.Slots.{sort_more}
 use Rattle.shape.proofs.sorting.sort.Goals as goal
 
-pub loop-i-init : goal.loop-i-init
+pub loop-n-init : goal.loop-n-init
 unfolding sorted_array sorted_points
-loop-i-init c = (search rules, c.blank_points-sorted.ensures)
+loop-n-init c = rw c.new-sorted.ensures
 
-pub loop-i-preserved : goal.loop-i-preserved
-loop-i-preserved c = (
-  omega arith,
-  rw (c.insert-next.ensures, c.clamped.ensures, c.loop-i.invariant.1, add-one) (sort_more _ _),
-)
-
-pub returns : goal.returns
-returns c =
-    let e : c.loop-i.i ≡ c.args.len = omega arith in
-    rw (← e) c.loop-i.invariant.1
+pub loop-n-preserved : goal.loop-n-preserved
+loop-n-preserved c = rw (c.insert.ensures, c.clamped.ensures, c.loop-n.invariant, add-one) (sort_more _ _)

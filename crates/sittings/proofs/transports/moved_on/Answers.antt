@@ -12,6 +12,6 @@ returns-in_default c =
 pub returns : goal.returns
 unfolding moved_on
 returns c =
-    let known = sym c.from_codes.ensures ∙ c.in-Known.is in
+    let known = sym c.from_codes.ensures ∙ c.in-Some.is in
     let next = c.advance-next.ensures in
     rw (known, next)

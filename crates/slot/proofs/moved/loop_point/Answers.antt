@@ -4,18 +4,18 @@ use Rattle.slot.specs.Moved.{loop_of}
 use Rattle.slot.proofs.moved.loop_point.Goals as goal
 
 pub offset_bounds-xs-i : goal.offset_bounds-xs-i
-offset_bounds-xs-i c = omega (arith, rw c.in-At.is at c.requires)
+offset_bounds-xs-i c = omega (arith, rw c.in_ok-i-in-Drawn.was at c.requires)
 
 pub bounds-xs-i : goal.bounds-xs-i
-bounds-xs-i c = omega (arith, rw c.in-At.is at c.requires)
+bounds-xs-i c = omega (arith, rw c.in_ok-i-in-Drawn.was at c.requires)
 
-pub returns-in-None : goal.returns-in-None
+pub returns-in_err-i-in-Drawn : goal.returns-in_err-i-in-Drawn
 unfolding loop_of
-returns-in-None c = rw (c.in-Drawn.is, c.in-None.is)
+returns-in_err-i-in-Drawn c = rw (c.from_residual.ensures, c.in-Drawn.is, c.in_err-i-in-Drawn.was)
 
-pub returns-in-At : goal.returns-in-At
+pub returns-in_ok-i-in-Drawn : goal.returns-in_ok-i-in-Drawn
 unfolding loop_of
-returns-in-At c = rw (c.in-Drawn.is, c.in-At.is, c.f32_to_f64_with_nan.ensures)
+returns-in_ok-i-in-Drawn c = rw (c.in-Drawn.is, c.in_ok-i-in-Drawn.was, c.f32_to_f64_with_nan.ensures)
 
 pub returns-in-Path : goal.returns-in-Path
 unfolding loop_of

@@ -1,36 +1,36 @@
--- `put_decimal` meets its contract. The invariant: with the digits of the rest written from `at` on, the buffer is what it is to be.
--- Assumes nothing.
-use Prim.Native.Nat.{◌-◌}
-use mathlib.Core.Path.{refl}
+-- `put_decimal` meets its contract. Assumes nothing.
+use Prim.Native.Nat.{ℕ, suc, ◌+◌, ◌-◌, ◌/◌, ◌%◌, ◌≤◌, ◌<◌}
+use mathlib.Core.Path.{◌≡◌, sym, ap, ◌∙◌}
+use mathlib.Core.List.{List}
 use native.Mathlib.Omega.{arith}
-use Rattle.text.proofs.Decimal.{size_some}
-use Rattle.text.proofs.digits.put_decimal.Invariants.{turn, done}
+use lib.ListN.{length, set}
+use Rattle.listlaws.specs.Over.{over}
+use Rattle.listlaws.proofs.Over.{over_none}
+use Rattle.text.specs.Digits.{decimal}
+use Rattle.text.proofs.Decimal.{last_digits, last_length, last_all}
+use Rattle.text.proofs.Over.{over_last}
 use Rattle.text.proofs.digits.put_decimal.Goals as goal
 
-pub overflow_add-end : goal.overflow_add-end
-overflow_add-end c = omega (arith, c.requires, c.size.ensures)
+start : (at n : ℕ) {size : ℕ} → size ≡ length (decimal n) → last_digits (at + size - at) n ≡ decimal n
+start at n {size} e = let here : at + size - at ≡ length (decimal n) = omega arith in rw here (last_all n)
 
-pub loop-rest-init : goal.loop-rest-init
-loop-rest-init c =
-    record { bytes = refl; place = rw c.size.ensures; within = omega (arith, c.requires, c.size.ensures); long = refl }
+turn : (y : List ℕ) (at n k : ℕ) {j m : ℕ} → j ≡ at + k → m ≡ suc k → j < length y
+    → over (set y j (48 + n % 10)) at (last_digits k (n / 10)) ≡ over y at (last_digits m n)
+unfolding last_digits
+turn y at n k j-is m-is room =
+    let here : at + k ≡ at + length (last_digits k (n / 10)) = omega (arith, last_length k (n / 10)) in
+    rw (m-is, j-is, here) (over_last y at (last_digits k (n / 10)) (48 + n % 10) (omega (arith, last_length k (n / 10))))
 
-pub overflow_sub-i : goal.overflow_sub-i
-overflow_sub-i c = let p = c.loop-rest.invariant in omega (arith, p.place, size_some c.loop-rest.rest)
+done : (y : List ℕ) (at i n : ℕ) → i ≤ at → over y at (last_digits (i - at) n) ≡ y
+unfolding last_digits
+done y at i n h = let none : i - at ≡ 0 = omega arith in rw none (over_none y at)
 
-pub bounds-out-i : goal.bounds-out-i
-bounds-out-i c =
-    omega (arith, c.loop-rest.invariant.place, c.loop-rest.invariant.within, size_some c.loop-rest.rest)
+pub loop-i-init : goal.loop-i-init
+loop-i-init c = ap (over c.args.out.now c.args.at) (start c.args.at c.args.n c.size.ensures)
 
-pub loop-rest-preserved : goal.loop-rest-preserved
-loop-rest-preserved c = turn c.loop-rest.invariant c.loop-rest-test.true c.last_digit.ensures
-
-pub bounds-out-at : goal.bounds-out-at
-bounds-out-at c =
-    omega (arith, c.loop-rest.invariant.place, c.loop-rest.invariant.within, size_some c.loop-rest.rest)
+pub loop-i-preserved : goal.loop-i-preserved
+loop-i-preserved c =
+    turn c.loop-i.out c.args.at c.loop-i.rest (c.loop-i.i - 1 - c.args.at) (omega arith) (omega arith) (omega (arith, c.requires, c.size.ensures)) ∙ c.loop-i.invariant
 
 pub returns : goal.returns
-returns c =
-    record {
-      next = rw c.size.ensures;
-      bytes = done c.loop-rest.invariant c.loop-rest-test.false c.last_digit-2.ensures;
-    }
+returns c = record { next = rw c.size.ensures; bytes = sym (done c.loop-i.out c.args.at c.loop-i.i c.loop-i.rest c.loop-i-test.false) ∙ c.loop-i.invariant }

@@ -36,16 +36,16 @@ module _ {x : List ℕ} {at : ℕ} (n : ℕ) (room : at + 8 ≤ length x) {a : �
 
 pub put_pair-b-requires : goal.put_pair-b-requires
 put_pair-b-requires c =
-    (room_2 c.args.n c.requires.0 c.put_pair-a.ensures, search rules, c.requires.1)
+    (room_2 c.args.n c.requires c.put_pair-a.ensures, search rules)
 
 pub put_pair-c-requires : goal.put_pair-c-requires
 put_pair-c-requires c =
-    (room_3 c.args.n c.requires.0 c.put_pair-a.ensures c.put_pair-b.ensures, search rules, c.requires.1)
+    (room_3 c.args.n c.requires c.put_pair-a.ensures c.put_pair-b.ensures, search rules)
 
 pub put_pair-requires : goal.put_pair-requires
 put_pair-requires c =
-    (room_4 c.args.n c.requires.0 c.put_pair-a.ensures c.put_pair-b.ensures c.put_pair-c.ensures, search rules, c.requires.1)
+    (room_4 c.args.n c.requires c.put_pair-a.ensures c.put_pair-b.ensures c.put_pair-c.ensures, search rules)
 
 pub returns : goal.returns
 returns c =
-    four c.args.n c.requires.0 c.put_pair-a.ensures c.put_pair-b.ensures c.put_pair-c.ensures c.put_pair.ensures
+    four c.args.n c.requires c.put_pair-a.ensures c.put_pair-b.ensures c.put_pair-c.ensures c.put_pair.ensures

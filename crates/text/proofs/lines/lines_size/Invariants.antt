@@ -29,8 +29,5 @@ turn {first} {n} {sum} {k} p h fits e =
       small = omega (arith, p.small, size_most (first + k) (omega arith));
     }
 
-abbrev pub invariant-loop-i : goal.invariant-loop-i
-invariant-loop-i l = Counting l.first l.n l.sum l.i
-
-abbrev pub decreases-loop-i : goal.decreases-loop-i
-decreases-loop-i l = l.n - l.i
+abbrev pub invariant-loop-k : goal.invariant-loop-k
+invariant-loop-k l = Counting l.first l.n l.sum l.k

@@ -19,4 +19,4 @@ put {n = n} v room p bits q = rw (← bits) (puts_more p q (omega (arith, hexade
 
 pub returns : goal.returns
 returns c =
-    put c.args.x c.requires.0 c.put_byte-a.ensures c.bits_of_f32.ensures.bits c.put_hexadecimal.ensures
+    put c.args.x c.requires c.put_byte-a.ensures c.bits_of_f32.ensures.bits c.put_hexadecimal.ensures

@@ -36,14 +36,14 @@ module _ {o : List ℕ} {at : ℕ} (i : ℕ) (room : at + (length (decimal i) + 
 
 pub put_field-c-requires : goal.put_field-c-requires
 put_field-c-requires c =
-    (room_y c.args.index c.requires.0 c.put_decimal-a.ensures c.args.x c.put_field-b.ensures, c.requires.1)
+    (room_y c.args.index c.requires c.put_decimal-a.ensures c.args.x c.put_field-b.ensures)
 
 pub put_byte-requires : goal.put_byte-requires
 put_byte-requires c =
     let a = c.args in
-    room_end a.index c.requires.0 c.put_decimal-a.ensures a.x c.put_field-b.ensures a.y c.put_field-c.ensures
+    room_end a.index c.requires c.put_decimal-a.ensures a.x c.put_field-b.ensures a.y c.put_field-c.ensures
 
 pub returns : goal.returns
 returns c =
     let a = c.args in
-    all a.index c.requires.0 c.put_decimal-a.ensures a.x c.put_field-b.ensures a.y c.put_field-c.ensures c.put_byte.ensures
+    all a.index c.requires c.put_decimal-a.ensures a.x c.put_field-b.ensures a.y c.put_field-c.ensures c.put_byte.ensures

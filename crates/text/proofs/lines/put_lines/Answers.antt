@@ -1,45 +1,39 @@
 -- `put_lines` meets its contract: the lines that are written and those to come make all of them. Assumes nothing.
-use Prim.Native.Nat.{◌-◌}
-use native.Mathlib.Nat.{add-zero}
+use Prim.Native.Nat.{ℕ, ◌+◌, ◌≤◌, ◌<◌}
+use mathlib.Core.Path.{◌≡◌, sym}
+use mathlib.Core.List.{List}
+use native.Mathlib.Nat.{add-suc}
+use native.Mathlib.Numerals.{add-one}
 use native.Mathlib.Omega.{arith}
-use Rattle.text.proofs.Over.{put_none}
-use Rattle.text.proofs.lines.put_lines.Invariants.{line_room, turn, done}
+use lib.ListN.{length, drop, get_or}
+use lib.Ieee.{Float, nan}
+use Rattle.text.specs.Digits.{decimal}
+use Rattle.text.specs.Lines.{line, lines, lines_size}
+use Rattle.text.specs.Write.{Puts}
+use Rattle.text.proofs.Over.{Putting, put_room, put_one, put_all}
+use Rattle.text.proofs.Steps.{line_length, lines_at, lines_end, lines_long}
 use Rattle.text.proofs.lines.put_lines.Goals as goal
 
-pub loop-k-init : goal.loop-k-init
-loop-k-init c = record { within = omega arith; putting = rw add-zero (put_none _ _ _) }
+module _ {o : List ℕ} {at : ℕ} (first : ℕ) (x y : List Float) (k : ℕ) (long : length y ≡ length x) (room : at + lines_size first (length x) ≤ length o)
+    {o' : List ℕ} {place : ℕ} (p : Putting o at (lines first x y) o' place (lines (first + k) (drop k x) (drop k y))) where
+  all_room : at + length (lines first x y) ≤ length o
+  all_room = rw (lines_long first x y (sym long)) room
 
-pub overflow_add-first : goal.overflow_add-first
-overflow_add-first c = omega (arith, c.requires)
+  line_room : k < length x → place + (length (decimal (first + k)) + 19) ≤ length o'
+  line_room h = rw line_length at (put_room p all_room (line (first + k) (get_or x k nan) (get_or y k nan)) _ (lines_at x y long (first + k) k h))
 
-pub offset_bounds-x-k : goal.offset_bounds-x-k
-offset_bounds-x-k c = omega (arith, c.requires)
+  turn : k < length x → {next : ℕ} {z : List ℕ} → Puts o' place (line (first + k) (get_or x k nan) (get_or y k nan)) next z
+      → Putting o at (lines first x y) z next (lines (first + (k + 1)) (drop (k + 1) x) (drop (k + 1) y))
+  turn h put = rw (add-one, add-suc) (put_one p all_room _ _ (lines_at x y long (first + k) k h) put)
 
-pub bounds-x-k : goal.bounds-x-k
-bounds-x-k c = omega (arith, c.requires)
-
-pub offset_bounds-y-k : goal.offset_bounds-y-k
-offset_bounds-y-k c = omega (arith, c.requires)
-
-pub bounds-y-k : goal.bounds-y-k
-bounds-y-k c = omega (arith, c.requires)
+  done : length x ≤ k → k ≤ length x → Puts o at (lines first x y) place o'
+  done h h' = put_all p all_room (lines_end x y long (first + k) k h h')
 
 pub put_line-place-requires : goal.put_line-place-requires
-put_line-place-requires c =
-    let a = c.requires.0 in
-    (line_room a.0 a.1 c.requires.1 c.loop-k.invariant c.loop-k-test.true, c.requires.2)
-
-pub overflow_add-k : goal.overflow_add-k
-overflow_add-k c = omega (arith, c.requires)
+put_line-place-requires c = line_room c.args.first c.args.x.now c.args.y.now c.loop-k.k c.requires.0.0 c.requires.1 c.loop-k.invariant c.loop-k-test.true
 
 pub loop-k-preserved : goal.loop-k-preserved
-loop-k-preserved c =
-    let a = c.requires.0 in
-    turn a.0 a.1 c.requires.1 c.loop-k.invariant c.loop-k-test.true c.put_line-place.ensures
-
-pub shape_of-out : goal.shape_of-out
-shape_of-out c = c.loop-k.invariant.putting.long
+loop-k-preserved c = turn c.args.first c.args.x.now c.args.y.now c.loop-k.k c.requires.0.0 c.requires.1 c.loop-k.invariant c.loop-k-test.true c.put_line-place.ensures
 
 pub returns : goal.returns
-returns c =
-    done c.requires.0.0 c.requires.0.1 c.requires.1 c.loop-k.invariant c.loop-k-test.false
+returns c = done c.args.first c.args.x.now c.args.y.now c.loop-k.k c.requires.0.0 c.requires.1 c.loop-k.invariant c.loop-k-test.false (omega arith)

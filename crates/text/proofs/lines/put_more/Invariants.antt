@@ -1,5 +1,5 @@
 -- `put_more` meets its contract: what is written and what is to come make all of it. Assumes nothing.
-use Prim.Native.Nat.{ℕ, ◌+◌, ◌-◌, ◌≤◌, ◌<◌}
+use Prim.Native.Nat.{ℕ, ◌+◌, ◌≤◌, ◌<◌}
 use mathlib.Core.List.{List, [], ◌∷◌}
 use lib.ListN.{length, drop, get_or}
 use Rattle.text.specs.Digits.{decimal}
@@ -16,8 +16,5 @@ module _ {o : List ℕ} {at : ℕ} (s : List ℕ) (room : at + length (more s) �
   pub end_room : length s ≤ i → i ≤ length s → place < length o'
   end_room h h' = put_space p room line_feed [] (more_end s i h h')
 
-abbrev pub invariant-loop-i : goal.invariant-loop-i
-invariant-loop-i l = (l.i ≤ length l.s) × Putting l.initial.out l.at (more l.s) l.out l.place (more (drop l.i l.s))
-
-abbrev pub decreases-loop-i : goal.decreases-loop-i
-decreases-loop-i l = length l.s - l.i
+abbrev pub invariant-loop-n : goal.invariant-loop-n
+invariant-loop-n l = Putting l.initial.out l.at (more l.s) l.out l.place (more (drop l.n-index l.s))

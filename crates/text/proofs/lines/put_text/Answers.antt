@@ -1,25 +1,17 @@
--- `put_text` meets its contract: what is written and what is to come make all of it. Assumes nothing.
-use Prim.Native.Nat.{◌-◌}
-use native.Mathlib.Numerals.{add-one}
+-- `put_text` meets its contract: a part of the buffer is written over. Assumes nothing.
+use Prim.Native.Nat.{ℕ, ◌+◌, ◌-◌}
+use mathlib.Core.Path.{◌≡◌, refl}
+use mathlib.Core.List.{List, append_assoc}
 use native.Mathlib.Omega.{arith}
-use Rattle.text.proofs.Over.{put_none, put_space, put_one, put_all}
-use Rattle.text.proofs.lines.put_text.Invariants.{none_left, at_place}
+use lib.ListN.{length}
+use lib.Seq.{drop-drop}
+use borrow.Rule.Slice.PartMut.{put_mid}
+use Rattle.listlaws.specs.Over.{over}
 use Rattle.text.proofs.lines.put_text.Goals as goal
 
-pub loop-i-init : goal.loop-i-init
-loop-i-init c = (omega arith, put_none _ _ _)
-
-pub put_byte-place-requires : goal.put_byte-place-requires
-put_byte-place-requires c =
-    put_space c.loop-i.invariant.1 c.requires _ _ (at_place _ _ c.loop-i-test.true)
-
-pub loop-i-preserved : goal.loop-i-preserved
-loop-i-preserved c =
-    (omega arith, rw add-one (put_one c.loop-i.invariant.1 c.requires _ _ (at_place _ _ c.loop-i-test.true) c.put_byte-place.ensures))
-
-pub shape_of-out : goal.shape_of-out
-shape_of-out c = c.loop-i.invariant.1.long
+written : (x : List ℕ) (at : ℕ) (s : List ℕ) {t : List ℕ} → t ≡ s → put_mid at (at + length s - at) x t ≡ over x at s
+unfolding over
+written x at s e = let size : at + length s - at ≡ length s = omega arith in rw (e, size) (simp (append_assoc, drop-drop))
 
 pub returns : goal.returns
-returns c =
-    put_all c.loop-i.invariant.1 c.requires (none_left _ _ c.loop-i-test.false c.loop-i.invariant.0)
+returns c = record { next = refl; bytes = written c.args.out.now c.args.at c.args.s.now c.copy_from_slice.ensures.after }

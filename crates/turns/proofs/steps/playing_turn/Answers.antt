@@ -7,10 +7,10 @@ pub returns-then-s-eq0 : goal.returns-then-s-eq0
 returns-then-s-eq0 c =
     rw (playing_none (course_of c.args.t) c.args.s.now c.if-s-eq0.true) (turn_waits c.requires.0 c.wait.ensures)
 
-pub returns-then-next-ne0 : goal.returns-then-next-ne0
-returns-then-next-ne0 c =
-    rw (playing_fault c.args.t c.args.s.now c.if-s-eq0.false c.read_event-e.ensures c.if-next-ne0.true) c.fault_turn.ensures
+pub returns-in-Ok : goal.returns-in-Ok
+returns-in-Ok c =
+    rw (playing_event c.args.t c.args.s.now c.if-s-eq0.false _ _ c.in-Ok.ensures) c.event_turn.ensures
 
-pub returns : goal.returns
-returns c =
-    rw (playing_event c.args.t c.args.s.now c.if-s-eq0.false c.read_event-e.ensures c.if-next-ne0.false) c.event_turn.ensures
+pub returns-in-Err : goal.returns-in-Err
+returns-in-Err c =
+    rw (playing_fault c.args.t c.args.s.now c.if-s-eq0.false _ c.in-Err.ensures, ← c.number.ensures) c.fault_turn.ensures

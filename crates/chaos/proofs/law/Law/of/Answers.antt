@@ -4,10 +4,10 @@ use lib.Ieee.{of_bits, round, neg, div}
 use Rattle.chaos.specs.Law.{LORENZ, ROSSLER, law_of}
 use Rattle.chaos.proofs.law.Law.of.Goals as goal
 
-pub returns-then-lorenz : goal.returns-then-lorenz
+pub returns-in-Lorenz : goal.returns-in-Lorenz
 unfolding of_bits round neg div LORENZ
-returns-then-lorenz c = ap law_of (sym c.if-lorenz.true)
+returns-in-Lorenz c = ap law_of (sym c.in-Lorenz.is)
 
-pub returns-else-lorenz : goal.returns-else-lorenz
+pub returns-in-Rossler : goal.returns-in-Rossler
 unfolding of_bits round neg div ROSSLER
-returns-else-lorenz c = ap law_of (sym c.if-lorenz.false)
+returns-in-Rossler c = ap law_of (sym c.in-Rossler.is)

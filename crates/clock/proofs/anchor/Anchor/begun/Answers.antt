@@ -8,8 +8,8 @@ returns-in-None c = rw (c.on_samples.ensures, c.in-None.is)
 
 pub returns-in-Beats : goal.returns-in-Beats
 unfolding begun_of
-returns-in-Beats c = rw (c.on_beats.ensures, c.in-Beats.is)
+returns-in-Beats c = rw (c.on_beats.ensures, c.in-Some.is, c.in-Beats.is)
 
 pub returns-in-Seconds : goal.returns-in-Seconds
 unfolding begun_of
-returns-in-Seconds c = rw (c.on_seconds.ensures, c.in-Seconds.is)
+returns-in-Seconds c = rw (c.on_seconds.ensures, c.in-Some.is, c.in-Seconds.is)

@@ -8,8 +8,8 @@ returns-in-None c = rw c.in-None.is
 
 pub returns-in-Beats : goal.returns-in-Beats
 unfolding started_of
-returns-in-Beats c = rw (c.locked_beats.ensures, c.in-Beats.is)
+returns-in-Beats c = rw (c.locked_beats.ensures, c.in-Some.is, c.in-Beats.is)
 
 pub returns-in-Seconds : goal.returns-in-Seconds
 unfolding started_of
-returns-in-Seconds c = rw (c.locked_seconds.ensures, c.in-Seconds.is)
+returns-in-Seconds c = rw (c.locked_seconds.ensures, c.in-Some.is, c.in-Seconds.is)

@@ -14,8 +14,8 @@ returns-in-None c = rw (c.nearest_u64_to_f64.ensures, c.anchored-a.ensures, c.in
 
 pub returns-in-Beats : goal.returns-in-Beats
 unfolding ticked_of
-returns-in-Beats c = rw (c.followed.ensures, c.nearest_u64_to_f64-in-Beats.ensures, c.in-Beats.is)
+returns-in-Beats c = rw (c.followed.ensures, c.nearest_u64_to_f64-in-Beats.ensures, c.in-Some.is, c.in-Beats.is)
 
 pub returns-in-Seconds : goal.returns-in-Seconds
 unfolding ticked_of
-returns-in-Seconds c = rw (c.followed-in-Seconds.ensures, c.nearest_u64_to_f64-in-Seconds.ensures, c.in-Seconds.is)
+returns-in-Seconds c = rw (c.followed-in-Seconds.ensures, c.nearest_u64_to_f64-in-Seconds.ensures, c.in-Some.is, c.in-Seconds.is)

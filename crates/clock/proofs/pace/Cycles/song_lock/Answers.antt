@@ -1,19 +1,16 @@
 -- `Cycles::song_lock` meets its contract. Assumes nothing.
+use Rattle.std.proofs.Common.{inl, inr}
 use Rattle.clock.specs.Pace.{song_lock_of}
 use Rattle.clock.proofs.pace.Cycles.song_lock.Goals as goal
 
 pub returns-in-PerBeat : goal.returns-in-PerBeat
 unfolding song_lock_of
-returns-in-PerBeat c = simp (c.in-PerBeat.is, c.if-set.true, c.if-playing.true)
+returns-in-PerBeat c = simp (c.in-PerBeat.is, c.if-not-playing.false.0, c.if-not-playing.false.1)
 
 pub returns-in-PerSecond : goal.returns-in-PerSecond
 unfolding song_lock_of
-returns-in-PerSecond c = simp (c.in-PerSecond.is, c.if-set.true, c.if-playing.true)
+returns-in-PerSecond c = simp (c.in-PerSecond.is, c.if-not-playing.false.0, c.if-not-playing.false.1)
 
-pub returns-else-playing : goal.returns-else-playing
+pub returns-then-not-playing : goal.returns-then-not-playing
 unfolding song_lock_of
-returns-else-playing c = simp (c.if-set.true, c.if-playing.false)
-
-pub returns-else-set : goal.returns-else-set
-unfolding song_lock_of
-returns-else-set c = simp c.if-set.false
+returns-then-not-playing c = elim c.if-not-playing.either [ inl w ↦ simp (w.0, w.1) | inr w ↦ simp w ]

@@ -1,15 +1,20 @@
 -- `Cycles::swing` meets its contract. Assumes nothing.
+use Rattle.std.proofs.Common.{◌≡◌, Bool, true, false, cond, Option, None, refl}
 use Rattle.clock.specs.Pace.{swing_of}
 use Rattle.clock.proofs.pace.Cycles.swing.Goals as goal
 
 pub returns-in-PerBeat : goal.returns-in-PerBeat
 unfolding swing_of
-returns-in-PerBeat c = simp (c.f32_to_f64_with_nan.ensures, c.clamp_f32-a.ensures, c.in-PerBeat.is, c.if-set.true)
+returns-in-PerBeat c = simp (c.f32_to_f64_with_nan.ensures, c.clamp-a.ensures, c.in-PerBeat.is, c.if-set.true)
 
-pub returns-in-PerSecond : goal.returns-in-PerSecond
+pub returns-in_default : goal.returns-in_default
 unfolding swing_of
-returns-in-PerSecond c = simp (c.in-PerSecond.is, c.if-set.true)
+returns-in_default c = simp c.if-set.false
 
-pub returns-else-set : goal.returns-else-set
+pub returns-in_default-2 : goal.returns-in_default-2
 unfolding swing_of
-returns-else-set c = simp c.if-set.false
+returns-in_default-2 c = rw c.in_default.is (neither c.args.set)
+  where
+    neither : {A : Type 0} (b : Bool) → ◌≡◌ {A = Option A} None (cond b None None)
+    neither true = refl
+    neither false = refl

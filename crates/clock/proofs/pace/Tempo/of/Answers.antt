@@ -4,4 +4,4 @@ use Rattle.clock.proofs.pace.Tempo.of.Goals as goal
 
 pub returns : goal.returns
 unfolding tempo_of
-returns c = rw (c.max_f64-sample_rate.ensures, c.max_f64.ensures, c.max_f64-beats_per_bar.ensures)
+returns c = rw (c.max-sample_rate.ensures, c.max.ensures, c.max-beats_per_bar.ensures)

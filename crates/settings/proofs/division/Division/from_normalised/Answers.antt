@@ -23,7 +23,7 @@ place c =
     ∙ ap (to_unsigned 64)
     (c.f32_to_f64_with_nan-nearest.ensures
     ∙ c.round_f32.ensures
-    ∙ ap (λ (x : Float). whole_of binary32 to_half (x ×₃₂ f32_14)) c.clamp_f32-k.ensures)
+    ∙ ap (λ (x : Float). whole_of binary32 to_half (x ×₃₂ f32_14)) c.clamp-k.ensures)
 
 pub overflow_cast-index : goal.overflow_cast-index
 overflow_cast-index c = record { fits = small (knob (goal.at.overflow_cast-index c).After-f64_to_u64-index) c.f64_to_u64-index.result (place (goal.at.overflow_cast-index c).After-f64_to_u64-index) }

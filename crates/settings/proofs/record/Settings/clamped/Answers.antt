@@ -4,4 +4,4 @@ use Rattle.settings.proofs.record.Settings.clamped.Goals as goal
 
 pub returns : goal.returns
 unfolding clamped_settings
-returns c = simp (c.clamped-rate.ensures, c.clamped-fade_in.ensures, c.clamped-delay.ensures, c.clamped_phase-phase.ensures)
+returns c = simp (c.clamped-self.ensures, c.clamped-self-2.ensures, c.clamped-self-3.ensures, c.clamped_phase.ensures)

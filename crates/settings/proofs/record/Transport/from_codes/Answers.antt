@@ -1,15 +1,15 @@
--- `Transport::from_codes` meets its contract. Assumes nothing.
+-- `Transport::from_codes` meets its contract: each code, in turn. Assumes nothing.
 use Rattle.settings.specs.Codes.{transport_at}
 use Rattle.settings.proofs.record.Transport.from_codes.Goals as goal
 
-pub returns-in_default : goal.returns-in_default
+pub returns-in_err-playing : goal.returns-in_err-playing
 unfolding transport_at
-returns-in_default c = rw (← c.from_code.ensures, c.in_default.is)
+returns-in_err-playing c = rw (c.from_residual.ensures, ← c.in_err-playing.ensures)
 
-pub returns-in_default-from_codes : goal.returns-in_default-from_codes
+pub returns-in_err-scale : goal.returns-in_err-scale
 unfolding transport_at
-returns-in_default-from_codes c = rw (← c.from_code.ensures, c.in-Known.is, ← c.from_codes.ensures, c.in_default-from_codes.is)
+returns-in_err-scale c = rw (c.from_residual-in_err-scale.ensures, ← c.in_ok-playing.ensures, ← c.in_err-scale.ensures)
 
 pub returns : goal.returns
 unfolding transport_at
-returns c = rw (← c.from_code.ensures, c.in-Known.is, ← c.from_codes.ensures, c.in-Known-from_codes.is)
+returns c = rw (← c.in_ok-playing.ensures, ← c.in_ok-scale.ensures)

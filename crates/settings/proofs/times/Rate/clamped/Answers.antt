@@ -8,4 +8,4 @@ returns-in-Synced c = rw c.in-Synced.is
 
 pub returns-in-Hz : goal.returns-in-Hz
 unfolding clamped_rate
-returns-in-Hz c = rw (c.in-Hz.is, c.clamp_f32-h.ensures, c.top_hz.ensures)
+returns-in-Hz c = rw (c.in-Hz.is, c.clamp-h.ensures, c.top_hz.ensures)

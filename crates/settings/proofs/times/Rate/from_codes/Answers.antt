@@ -10,7 +10,7 @@ returns-in-0 c = rw (c.in-0.is, c.synced_rate.ensures, c.from_code-in-0.ensures,
 
 pub returns-in-1 : goal.returns-in-1
 unfolding rate_at
-returns-in-1 c = rw (c.in-1.is, c.hz_rate.ensures, c.from_code-in-1.ensures)
+returns-in-1 c = rw (c.in-1.is, c.hz_rate.ensures, c.yes_no.ensures)
 
 pub returns-in_default : goal.returns-in_default
 unfolding rate_at

@@ -1,6 +1,6 @@
 -- `Scale::from_codes` meets its contract: each code is a place of the list, and any other is past its end. Assumes nothing.
-use Rattle.std.proofs.Common.{arith}
-use lib.ListN.{get_or-eq_default}
+use Rattle.std.proofs.Common.{sym, arith}
+use Rattle.std.proofs.lemmas.Option.{slice_get_past}
 use Rattle.settings.specs.Times.{scales, scale_at}
 use Rattle.settings.proofs.times.Scale.from_codes.Goals as goal
 
@@ -14,4 +14,4 @@ returns-in-1 c = rw c.in-1.is
 
 pub returns-in_default : goal.returns-in_default
 unfolding scale_at
-returns-in_default c = let a = c.args.c in rw (get_or-eq_default (scales a) _ {n = a.code} (omega arith))
+returns-in_default c = sym (slice_get_past (scales c.args.c) c.args.c.code (omega arith))

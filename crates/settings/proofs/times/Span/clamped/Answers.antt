@@ -12,4 +12,4 @@ returns-in-Synced c = rw (c.in-Synced.is, c.as_span.ensures)
 
 pub returns-in-Seconds : goal.returns-in-Seconds
 unfolding clamped_span
-returns-in-Seconds c = rw (c.in-Seconds.is, c.clamp_f32.ensures)
+returns-in-Seconds c = rw (c.in-Seconds.is, c.clamp.ensures)

@@ -1,6 +1,0 @@
--- `full` meets its contract. Assumes nothing.
-use mathlib.Core.Path.{refl}
-use Rattle.ensemble_runner.proofs.block.full.Goals as goal
-
-pub returns : goal.returns
-returns c = refl

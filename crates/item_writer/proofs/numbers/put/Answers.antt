@@ -1,7 +1,0 @@
--- `put` meets its contract. Assumes nothing.
-use native.Mathlib.Omega.{arith}
-use Rattle.item_writer.proofs.Laws.{one}
-use Rattle.item_writer.proofs.numbers.put.Goals as goal
-
-pub returns : goal.returns
-returns c = one _ _ _ (omega arith)

@@ -1,6 +1,0 @@
--- `put_f32_if` meets its contract. Assumes nothing.
-use Rattle.item_writer.proofs.numbers.put_f32_if.Goals as goal
-
-pub returns : goal.returns
-returns c =
-    rw (← c.bits_of_f32.ensures.bits) c.put_if.ensures
