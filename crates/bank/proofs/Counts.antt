@@ -8,7 +8,6 @@ use Rattle.clock.specs.declared.anchor.Anchor.{Anchor}
 use Rattle.clock.specs.declared.anchor.Anchor.TheVariants.{Samples, Beats, Seconds}
 use Rattle.clock.specs.declared.block.Block.{Block}
 use Rattle.clock.specs.declared.block.SongLock.{SongLock}
-use Rattle.clock.specs.declared.block.SongLock.TheVariants as SongLock
 use Rattle.clock.specs.Anchor.{sample_count, started_by, started_of, is_grounded, locked_beats, locked_seconds, from_here, begun_by, begun_of}
 use Rattle.settings.specs.declared.choices.Mode.{Mode}
 use Rattle.settings.specs.declared.choices.Mode.TheVariants.{Free, Restart, OneShot}

@@ -8,7 +8,7 @@ ghost use Rattle.bank.specs.Parts.{stretches_of, first_end, between_of, PlaysPar
 use super::stretch::{Rendered, render};
 use clock::Block;
 use settings::Settings;
-use voice::{CurveView, Kept, Voice};
+use voice::{CurveView, Voice};
 
 // A stretch that is begun: the voice is readied, and then come its frames.
 fn begin_stretch(
@@ -64,27 +64,22 @@ fn between(left: usize, s: Settings, block: Block, v: Voice) -> Voice
     voice::trigger(s, block, v)
 }
 
-// Renders a voice over the whole block of `frames` frames, restarting it where `at` says. One call of `begin_stretch` after the other, in place
-// of the loop, took 1.5 ns a frame more on Drawn at 512 frames and 6 at 16: in the loop it has one call site, and is inlined.
+// Renders a voice over the whole block of `frames` frames, restarting it where `at` says; the count starts at 0, whatever `r` has. One call of `begin_stretch` after
+// the other, in place of the loop, takes 1.5 ns a frame more on Drawn at 512 frames and 6 at 16: in the loop it has one call site, and is inlined.
 pub fn render_parts(
     s: Settings,
     block: Block,
     curve: CurveView,
-    v: Voice,
-    kept: Kept,
+    mut r: Rendered,
     at: Option<usize>,
     frames: usize,
     x: &mut [f32],
     y: &mut [f32],
 ) -> Rendered
-    requires { Stretch s (curve_of curve) block v kept 0 frames x.old y.old }
-    ensures { PlaysParts s (curve_of curve.entry) block v at frames x.old y.old result x.new y.new }
+    requires { Stretch s (curve_of curve) block r.voice r.kept 0 frames x.old y.old }
+    ensures { PlaysParts s (curve_of curve.entry) block r.voice at frames x.old y.old result x.new y.new }
 {
-    let mut r = Rendered {
-        voice: v,
-        kept,
-        count: 0.0,
-    };
+    r.count = 0.0;
     let mut from = 0usize;
     let mut end = first_end(at, frames);
     for left in (0..stretches(at)).rev() {

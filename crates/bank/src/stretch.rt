@@ -15,7 +15,8 @@ pub struct Rendered {
 }
 
 // Plays `count` frames more, from sample `from` of the block on.
-// x and y are no struct: with a `&mut` in a struct each clause on it would name that reference (`ghost_name`).
+// x and y are no struct: with a `&mut` in a struct each clause on it would name that reference (`ghost_name`). Settings, block and curve are none: each clause names them
+// one by one, so a struct of the three would lengthen it.
 pub fn render(
     s: Settings,
     block: Block,

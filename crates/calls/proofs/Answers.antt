@@ -5,7 +5,7 @@ use mathlib.Core.Bool.{Bool, true, false, cond}
 use mathlib.Core.List.{List, [], ◌∷◌, ◌++◌}
 use native.Mathlib.Omega.{arith}
 use lib.Dec.{lit<}
-use Rattle.questions.specs.Questions.{Question, first_no, settings_questions, shape_questions, path_questions, bus_questions, phase_questions, block_questions}
+use Rattle.questions.specs.Questions.{Posed, first_no, settings_questions, shape_questions, path_questions, bus_questions, phase_questions, block_questions}
 use Rattle.calls.specs.State.{State}
 use Rattle.calls.specs.Calls.{Call, settings, shape, path, bus, phase, block, questions, answer, accepts, accepted, step}
 use Rattle.calls.specs.Laws.{AllYes, FirstNo, AnswerLaw, RefusedPlayer, PhaseKeeps}
@@ -13,22 +13,22 @@ use Rattle.calls.specs.Laws.{AllYes, FirstNo, AnswerLaw, RefusedPlayer, PhaseKee
 -- ---- of any questions
 
 -- no question has the number 0
-abbrev Numbered : List Question → Type 0
+abbrev Numbered : List Posed → Type 0
 Numbered [] = Unit
 Numbered (q ∷ qs) = (0 < q.0) × Numbered qs
 
-yes_zero : (qs : List Question) → AllYes qs → first_no qs ≡ 0
+yes_zero : (qs : List Posed) → AllYes qs → first_no qs ≡ 0
 unfolding first_no
 yes_zero [] y = refl
 yes_zero (q ∷ qs) y = rw y.0 (yes_zero qs y.1)
 
-zero_yes : (qs : List Question) → Numbered qs → first_no qs ≡ 0 → AllYes qs
+zero_yes : (qs : List Posed) → Numbered qs → first_no qs ≡ 0 → AllYes qs
 unfolding first_no
 zero_yes [] n e = tt
 zero_yes ((k, true) ∷ qs) n e = (refl, zero_yes qs n.1 e)
 zero_yes ((k, false) ∷ qs) n e = let z : ⊥ = omega (arith, n.0, e) in absurd z
 
-first_number : (n : ℕ) (before rest : List Question) → AllYes before → first_no (before ++ ((n, false) ∷ rest)) ≡ n
+first_number : (n : ℕ) (before rest : List Posed) → AllYes before → first_no (before ++ ((n, false) ∷ rest)) ≡ n
 unfolding first_no
 first_number n [] rest y = refl
 first_number n (q ∷ before) rest y = rw y.0 (first_number n before rest y.1)

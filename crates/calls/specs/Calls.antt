@@ -11,7 +11,7 @@ use Rattle.codes.specs.declared.ShapeCodes.{ShapeCodes}
 use Rattle.codes.specs.declared.PathCodes.{PathCodes}
 use Rattle.curves.specs.Given.{given_shape, given_path}
 use Rattle.codes.specs.declared.RestartCodes.{RestartCodes}
-use Rattle.questions.specs.Questions.{Question, first_no, settings_questions, shape_questions, path_questions, bus_questions, phase_questions, block_questions}
+use Rattle.questions.specs.Questions.{Posed, first_no, settings_questions, shape_questions, path_questions, bus_questions, phase_questions, block_questions}
 use Rattle.calls.specs.State.{State, new_state, with_settings, with_shape, with_path, with_bus}
 use Rattle.calls.specs.Blocks.{pending_of, played_state, values}
 
@@ -43,7 +43,7 @@ by_block u (phase t) f = u
 by_block u (block t frames restart x y) f = f t frames restart x y
 
 -- the questions that are put to it
-unfoldable pub questions : State → Call → List Question
+unfoldable pub questions : State → Call → List Posed
 questions p (settings c) = settings_questions c
 questions p (shape c) = shape_questions true c
 questions p (path c) = path_questions true c
@@ -72,7 +72,7 @@ by_transport u None f = u
 abbrev pub makes : SettingsCodes → Bool
 makes c = eqb (first_no (settings_questions c)) 0
 
--- the player that comes with a refusal, which has the default settings and is not to be used
+-- of a making that is refused: a player with the default settings
 abbrev pub no_player : ℕ → State
 no_player seed = new_state default_settings seed
 

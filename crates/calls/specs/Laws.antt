@@ -13,21 +13,21 @@ use Rattle.clock.specs.Free.{anchored_clock}
 use Rattle.clock.specs.Ready.{pace_at, lock_at}
 use Rattle.voice.specs.Frame.{Frame}
 use Rattle.codes.specs.declared.RestartCodes.{RestartCodes}
-use Rattle.questions.specs.Questions.{Question, first_no, block_questions}
+use Rattle.questions.specs.Questions.{Posed, first_no, block_questions}
 use Rattle.calls.specs.State.{State}
 use Rattle.calls.specs.Blocks.{pending_of, values, end_count, finished}
 use Rattle.calls.specs.Calls.{Call, bus, phase, block, by_block, questions, answer, accepts, made, step, after, buffer}
 
 -- ---- the answer: "the first "no" gives the number .. Success is 0"
 
-abbrev pub AllYes : List Question → Type 0
+abbrev pub AllYes : List Posed → Type 0
 AllYes [] = Unit
 AllYes (q ∷ qs) = (q.1 ≡ true) × AllYes qs
 
 -- the question numbered n is answered no, and each one before it yes
-pub record FirstNo (n : ℕ) (qs : List Question) : Type 0 where
-  pub before : List Question
-  pub rest : List Question
+pub record FirstNo (n : ℕ) (qs : List Posed) : Type 0 where
+  pub before : List Posed
+  pub rest : List Posed
   pub here : qs ≡ before ++ ((n, false) ∷ rest)
   pub yes : AllYes before
 

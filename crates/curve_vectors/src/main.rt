@@ -5,13 +5,13 @@
 // there, and the value with the points moved by the buses. Our strengths and legs are handed to the Rust source.
 #![tactic(auto)]
 
-ghost use Rattle.std.specs.Prelude.{◌≤◌, length};
+ghost use Rattle.std.specs.Prelude.{◌≤◌};
 
 use path::{Path, PathPoint};
-use path_segments::{Xy, path_segment};
+use path_segments::{PathView, Xy};
 use points::PointMod;
 use shape::{Point, Shape};
-use shape_segments::drawn_segment;
+use shape_segments::DrawnView;
 use std::io;
 use std::io::{BufWriter, Write};
 
@@ -32,15 +32,6 @@ fn show_floats<W: Write>(to: &mut W, list: &[f32]) -> io::Result<()> {
     writeln!(to)
 }
 
-// Room for the most points that a curve has, with these in front.
-fn row<T: Copy>(points: &[T], blank: T) -> [T; 64]
-    requires { length points.now ≤ 64 }
-{
-    let mut all = [blank; 64];
-    all[..points.len()].copy_from_slice(points);
-    all
-}
-
 fn bus(bus: u8, depth: f32) -> Option<PointMod> {
     Some(PointMod { bus, depth })
 }
@@ -53,7 +44,13 @@ fn moved_value(s: Shape, x: f32) -> f32
 {
     let at = s.modulated(&BUSES);
     let curves = s.curves();
-    drawn_segment(&at.xs, &at.ys, &curves.es, &curves.steps, s.len, x).eval(x)
+    let drawn = DrawnView {
+        xs: &at.xs[..s.len],
+        ys: &at.ys,
+        es: &curves.es,
+        steps: &curves.steps,
+    };
+    drawn.segment(x).eval(x)
 }
 
 fn show_value<W: Write>(to: &mut W, s: Shape, x: f32) -> io::Result<()>
@@ -71,17 +68,10 @@ fn show_values<W: Write>(to: &mut W, s: Shape) -> io::Result<()>
     Ok(())
 }
 
-// The shape of the first `count` of the points.
-fn show_shape<W: Write>(to: &mut W, points: [Point; 64], count: usize) -> io::Result<()> {
-    let s = Shape::new(points, count);
+fn show_shape<W: Write>(to: &mut W, points: &[Point]) -> io::Result<()> {
+    let s = Shape::new(points);
     show_floats(to, &s.curves().es[..8])?;
     show_values(to, s)
-}
-
-fn show_points<W: Write>(to: &mut W, points: &[Point]) -> io::Result<()>
-    requires { length points.now ≤ 64 }
-{
-    show_shape(to, row(points, Point::new(0.0, 0.0)), points.len())
 }
 
 // A point with the segment after it bent by `curve`.
@@ -110,13 +100,13 @@ fn default_shape<W: Write>(to: &mut W) -> io::Result<()> {
 
 fn empty_shape<W: Write>(to: &mut W) -> io::Result<()> {
     writeln!(to, "empty shape")?;
-    show_points(to, &[])
+    show_shape(to, &[])
 }
 
 fn one_point<W: Write>(to: &mut W) -> io::Result<()> {
     writeln!(to, "one point")?;
     let points = [bent(0.25, 0.75, 0.5)];
-    show_points(to, &points)
+    show_shape(to, &points)
 }
 
 // At an x of several points the last of them starts the segment. Each has a bend of its own.
@@ -131,7 +121,7 @@ fn equal_x<W: Write>(to: &mut W) -> io::Result<()> {
         bent(1.0, 0.5, -1.0),
         bent(1.0, 0.1, -0.5),
     ];
-    show_points(to, &points)
+    show_shape(to, &points)
 }
 
 fn steps<W: Write>(to: &mut W) -> io::Result<()> {
@@ -142,7 +132,7 @@ fn steps<W: Write>(to: &mut W) -> io::Result<()> {
         Point::new(0.75, 0.9),
         stepped(0.9, 0.0),
     ];
-    show_points(to, &points)
+    show_shape(to, &points)
 }
 
 fn bends<W: Write>(to: &mut W) -> io::Result<()> {
@@ -157,7 +147,7 @@ fn bends<W: Write>(to: &mut W) -> io::Result<()> {
         bent(0.8, 0.05, 0.2998046875),
         Point::new(1.0, 1.0),
     ];
-    show_points(to, &points)
+    show_shape(to, &points)
 }
 
 // Multiples of 1/1024 within an octave: the 22nd, 24th and 165th, at which the Rust's exp2 has another last bit, and those next to the ends.
@@ -173,7 +163,7 @@ fn fine_bends<W: Write>(to: &mut W) -> io::Result<()> {
         bent(0.8, 0.05, -0.4765625),
         bent(1.0, 1.0, 0.0009765625),
     ];
-    show_points(to, &points)
+    show_shape(to, &points)
 }
 
 // Out of range and out of order: x of 0, 0.5 and 1 come about twice or more by clamping and sorting.
@@ -189,7 +179,7 @@ fn unsorted<W: Write>(to: &mut W) -> io::Result<()> {
         bent(1.0, 0.9, -0.5),
         stepped(0.8, 0.2),
     ];
-    show_points(to, &points)
+    show_shape(to, &points)
 }
 
 fn negative_zeros<W: Write>(to: &mut W) -> io::Result<()> {
@@ -201,7 +191,7 @@ fn negative_zeros<W: Write>(to: &mut W) -> io::Result<()> {
         Point::new(0.75, -0.0),
         Point::new(1.0, -0.0),
     ];
-    show_points(to, &points)
+    show_shape(to, &points)
 }
 
 // A gap of less than 2^-128: the reciprocal of its width is infinite.
@@ -212,7 +202,7 @@ fn tiny_gap<W: Write>(to: &mut W) -> io::Result<()> {
         Point::new(1.0e-40, 0.75),
         Point::new(1.0, 0.5),
     ];
-    show_points(to, &points)
+    show_shape(to, &points)
 }
 
 // Points pushed beyond their neighbours and the ends, by products that overflow, and by buses that are not there.
@@ -228,12 +218,12 @@ fn moving_points<W: Write>(to: &mut W) -> io::Result<()> {
         moving(bent(0.9, 0.6, 0.25), 6, 10.0, 15, 0.4),
         moving(stepped(1.0, 0.3), 11, 0.2, 9, 0.2),
     ];
-    show_points(to, &points)
+    show_shape(to, &points)
 }
 
-// 64 points, from right to left.
-fn leftward() -> [Point; 64] {
-    let mut all = [Point::new(0.0, 0.0); 64];
+// 70 points, from right to left.
+fn leftward() -> [Point; 70] {
+    let mut all = [Point::new(0.0, 0.0); 70];
     let mut x = 1.0;
     let mut y = 0.5;
     for p in &mut all {
@@ -247,7 +237,7 @@ fn leftward() -> [Point; 64] {
 // The first 64 of 70 points.
 fn many_points<W: Write>(to: &mut W) -> io::Result<()> {
     writeln!(to, "many points")?;
-    show_shape(to, leftward(), 70)
+    show_shape(to, &leftward())
 }
 
 // ---- paths
@@ -257,7 +247,14 @@ fn moved_outputs(p: Path, t: f32) -> Xy
     requires { p.len ≤ 64 }
 {
     let at = p.modulated(&BUSES);
-    path_segment(&at.xs, &at.ys, &p.bends(), &p.times, p.len, p.closed, t).eval(t)
+    let path = PathView {
+        xs: &at.xs[..p.len],
+        ys: &at.ys,
+        bends: &p.bends(),
+        times: &p.times,
+        closed: p.closed,
+    };
+    path.segment(t).eval(t)
 }
 
 fn show_outputs<W: Write>(to: &mut W, p: Path, t: f32) -> io::Result<()>
@@ -277,27 +274,10 @@ fn show_travel<W: Write>(to: &mut W, p: Path) -> io::Result<()>
     Ok(())
 }
 
-// The path of the first `count` of the points.
-fn show_path<W: Write>(
-    to: &mut W,
-    points: [PathPoint; 64],
-    count: usize,
-    closed: bool,
-) -> io::Result<()> {
-    let p = Path::new(points, count, closed);
+fn show_path<W: Write>(to: &mut W, points: &[PathPoint], closed: bool) -> io::Result<()> {
+    let p = Path::new(points, closed);
     show_floats(to, &p.legs()[..8])?;
     show_travel(to, p)
-}
-
-fn show_path_points<W: Write>(to: &mut W, points: &[PathPoint], closed: bool) -> io::Result<()>
-    requires { length points.now ≤ 64 }
-{
-    show_path(
-        to,
-        row(points, PathPoint::new(0.0, 0.0)),
-        points.len(),
-        closed,
-    )
 }
 
 // A point after which the segment bows by `bend`.
@@ -327,13 +307,13 @@ fn default_path<W: Write>(to: &mut W) -> io::Result<()> {
 
 fn empty_path<W: Write>(to: &mut W) -> io::Result<()> {
     writeln!(to, "empty path")?;
-    show_path_points(to, &[], true)
+    show_path(to, &[], true)
 }
 
 fn one_path_point<W: Write>(to: &mut W) -> io::Result<()> {
     writeln!(to, "path of one point")?;
     let points = [moving_along(bowed(0.25, 0.75, 1.0), 2, 1.0, 3, -1.0)];
-    show_path_points(to, &points, true)
+    show_path(to, &points, true)
 }
 
 // Three points with legs of 1, 1/2 and, where it is closed, the way back.
@@ -343,7 +323,7 @@ fn bent_path<W: Write>(to: &mut W, closed: bool) -> io::Result<()> {
         bowed(0.0, 1.0, -1.0),
         bowed(0.0, 0.5, 0.25),
     ];
-    show_path_points(to, &points, closed)
+    show_path(to, &points, closed)
 }
 
 fn open_path<W: Write>(to: &mut W) -> io::Result<()> {
@@ -365,7 +345,7 @@ fn clamped_path<W: Write>(to: &mut W) -> io::Result<()> {
         bowed(0.25, 0.40625, 1.0),
         bowed(-0.0, 7.0, -0.3),
     ];
-    show_path_points(to, &points, true)
+    show_path(to, &points, true)
 }
 
 // With no length every segment takes as long as the others.
@@ -376,7 +356,7 @@ fn path_of_no_length<W: Write>(to: &mut W) -> io::Result<()> {
         moving_along(bowed(0.5, 0.5, 1.0), 8, 1.0, 1, 0.5),
         moving_along(bowed(0.5, 0.5, -0.5), 4, -5.0, 4, 1.0),
     ];
-    show_path_points(to, &points, true)
+    show_path(to, &points, true)
 }
 
 // The buses move the points and not the times. Two points are reached at 0.75, of which the last starts the segment.
@@ -389,7 +369,7 @@ fn moving_path<W: Write>(to: &mut W) -> io::Result<()> {
         moving_along(bowed(0.375, 1.0, -0.25), 4, 2.0, 15, 0.5),
         moving_along(bowed(-0.0, 1.0, 0.1), 7, -1.0, 8, 1.0),
     ];
-    show_path_points(to, &points, false)
+    show_path(to, &points, false)
 }
 
 // Legs of 2,897 and 2,898 squares, whose last digit a float formula gets wrong, of 1 square and of its diagonal, and between far corners.
@@ -404,12 +384,12 @@ fn fine_path<W: Write>(to: &mut W) -> io::Result<()> {
         bowed(0.000244140625, 1.0, 1.0),
         bowed(0.78369140625, 0.004150390625, -1.0),
     ];
-    show_path_points(to, &points, true)
+    show_path(to, &points, true)
 }
 
-// 64 points, from right to left, each leg one square higher than the one before.
-fn rising() -> [PathPoint; 64] {
-    let mut all = [PathPoint::new(0.0, 0.0); 64];
+// 70 points, from right to left, each leg one square higher than the one before.
+fn rising() -> [PathPoint; 70] {
+    let mut all = [PathPoint::new(0.0, 0.0); 70];
     let mut x = 1.0;
     let mut y = 0.0;
     let mut step = 0.0;
@@ -425,7 +405,7 @@ fn rising() -> [PathPoint; 64] {
 // The first 64 of 70 points; the last leg goes from the 64th back to the first.
 fn many_path_points<W: Write>(to: &mut W) -> io::Result<()> {
     writeln!(to, "many path points")?;
-    show_path(to, rising(), 70, true)
+    show_path(to, &rising(), true)
 }
 
 fn main(rt: HostRuntime) -> io::Result<()> {

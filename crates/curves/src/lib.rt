@@ -60,7 +60,7 @@ pub fn shape_of(c: ShapeCodes) -> Shape
 {
     let n = points::kept(c.count);
     let given = points::filled(n, Point::new(0.0, 0.0), |i| point_of(c.points[i]));
-    Shape::new(given, c.count).set_loopback(loopback_of(c.loopback))
+    Shape::new(&given[..n]).set_loopback(loopback_of(c.loopback))
 }
 
 // ---- a path
@@ -82,5 +82,5 @@ pub fn path_of(c: PathCodes) -> Path
 {
     let n = points::kept(c.count);
     let given = points::filled(n, PathPoint::new(0.0, 0.0), |i| path_point_of(c.points[i]));
-    Path::new(given, c.count, is_yes(c.closed))
+    Path::new(&given[..n], is_yes(c.closed))
 }

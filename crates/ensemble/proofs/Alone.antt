@@ -8,7 +8,7 @@ use native.Mathlib.Omega.{arith}
 use lib.ListN.{length, take, drop, length-append}
 use lib.Seq.{take_at}
 use lib.Ieee.{Float}
-use Rattle.columns.specs.Columns.{strided, Fits}
+use Rattle.columns.specs.Columns.{strided}
 use Rattle.position.specs.Rest.{finished_of}
 use Rattle.voice.specs.declared.generator.Kept.{Kept}
 use Rattle.voice.specs.Curve.{void_kept, KeptFor}
@@ -48,12 +48,6 @@ module _ (p : BlockPage) (m : Member) (v : ℕ) (x y : List Float) (h : Ready p 
     full : (f : Frame → Float) (l l' : List Float) → l' ≡ parts_outs p.settings (page_curve p) p.block p.frames m.voice m.pending f ++ drop p.frames l → p.frames ≤ length l'
     unfolding member_outs
     full f l l' g = omega (arith, ap length g ∙ length-append (member_outs p f m) (drop p.frames l), length_member p f m)
-
-    pub x_fits : Fits p.frames v p.voices z' x
-    x_fits = record { short = h.page_in.short; few = h.page_in.few; one = h.one; full = full (λ f. f.x) z z' e.x_is; room = h.room_x }
-
-    pub y_fits : Fits p.frames v p.voices w' y
-    y_fits = record { short = h.page_in.short; few = h.page_in.few; one = h.one; full = full (λ f. f.y) w w' e.y_is; room = h.room_y }
 
     pub plays : (done : Bool) (x' y' : List Float) → done ≡ finished_of p.settings.kind p.settings.mode p.settings.direction p.loopback r.count → x' ≡ strided p.voices v (take p.frames z') x → y' ≡ strided p.voices v (take p.frames w') y
         → Plays p m v x y (record { voice = r.voice; pending = None; finished = done }) x' y'

@@ -2,6 +2,7 @@
 ghost use Rattle.ensemble.specs.Ensemble.{Ready, Plays};
 
 use super::{BlockPage, Member};
+use bank::Rendered;
 use voice::{CurveView, Kept};
 
 // The most frames of a block.
@@ -31,24 +32,21 @@ pub fn played(p: BlockPage, m: Member, v: usize, x: &mut [f32], y: &mut [f32]) -
         p.settings,
         p.block,
         curve,
-        m.voice,
-        Kept::void(),
+        Rendered {
+            voice: m.voice,
+            kept: Kept::void(),
+            count: 0.0,
+        },
         m.pending,
         p.frames,
         &mut xs,
         &mut ys,
     );
-    columns::scatter(&xs, p.frames, v, p.voices, x);
-    columns::scatter(&ys, p.frames, v, p.voices, y);
+    columns::scatter(&xs[..p.frames], v, p.voices, x);
+    columns::scatter(&ys[..p.frames], v, p.voices, y);
     Member {
         voice: r.voice,
         pending: None,
-        finished: position::finished(
-            p.settings.kind,
-            p.settings.mode,
-            p.settings.direction,
-            p.loopback,
-            r.count,
-        ),
+        finished: position::finished(p.settings, p.loopback, r.count),
     }
 }

@@ -8,7 +8,7 @@ use Rattle.voice.specs.Frame.{Frame}
 use Rattle.codes.specs.declared.ShapeCodes.{ShapeCodes}
 use Rattle.codes.specs.declared.PathCodes.{PathCodes}
 use Rattle.curves.specs.Given.{is_yes}
-use Rattle.questions.specs.Questions.{Question, first_no, shape_questions, path_questions, bus_questions}
+use Rattle.questions.specs.Questions.{Posed, first_no, shape_questions, path_questions, bus_questions}
 use Rattle.calls.specs.Blocks.{phase_at}
 use Rattle.calls.specs.Calls as player
 use Rattle.calls.specs.Calls.{by_transport}
@@ -47,7 +47,7 @@ by_block u (phase v t) f = u
 by_block u (block t frames x y) f = f t frames x y
 
 -- the questions that are put to it
-unfoldable pub questions : EnsembleState → Call → List Question
+unfoldable pub questions : EnsembleState → Call → List Posed
 questions e (settings c shared) = page_questions c shared
 questions e (shape c) = shape_questions true c
 questions e (path c) = path_questions true c

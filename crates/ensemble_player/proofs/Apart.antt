@@ -103,8 +103,8 @@ module _ (e : Ensemble) (t : Transport) (n : ℕ) (x y : List Float) (h : ReadyA
         }
 
     -- what `play_members` asks
-    pub members_ready : (e.count ≡ page.voices) × AllReady page e.decks.members x y
-    members_ready = rw page_is (refl, all_ready)
+    pub members_ready : AllReady page e.decks.members x y
+    members_ready = rw page_is all_ready
 
     -- ---- what the calls give together
 

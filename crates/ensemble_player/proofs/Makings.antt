@@ -1,5 +1,5 @@
 -- What making an ensemble gives, of the equations of what it calls. Assumes nothing.
-use Rattle.std.proofs.Common.{◌≡◌, ℕ, zero, suc, ◌<◌, ◌≤◌, Bool, true, false, cond, ◌&&◌, leb, List, [], ◌∷◌, ◌++◌, map, get_or, take, sym, refl, ap, ◌∙◌, subst, ap₂, inl, inr, le_of_suc-le-suc, eq-or-lt_of_le, arith, lit≤, take_all, leb-true, None, Option, Some}
+use Rattle.std.proofs.Common.{◌≡◌, ℕ, zero, suc, ◌<◌, ◌≤◌, Bool, true, false, cond, ◌&&◌, leb, List, [], ◌∷◌, ◌++◌, map, get_or, take, sym, refl, ap, ◌∙◌, subst, ap₂, inl, inr, le_of_suc-le-suc, eq-or-lt_of_le, arith, lit≤, take_all, leb-true, None, Option, Some, Result}
 use mathlib.Core.List.{map-append}
 use lib.Seq.{take-append-le}
 use Rattle.listlaws.specs.Tables.{tabulate}
@@ -11,21 +11,18 @@ use Rattle.slot.proofs.Slots.{new_voice_in}
 use Rattle.ensemble.specs.declared.Member.{Member}
 use Rattle.ensemble.specs.Ensemble.{no_member}
 use Rattle.curves.specs.Given.{is_yes}
-use Rattle.questions.specs.Questions.{first_no}
+use Rattle.questions.specs.declared.question.Question.{Question}
 use Rattle.questions.proofs.Laws.{and_true}
 use Rattle.calls.specs.State.{State, new_state}
 use Rattle.calls.specs.Calls as calls
 use Rattle.calls.specs.Calls.{by_settings}
 use Rattle.player.specs.declared.Player.{Player}
-use Rattle.player.specs.declared.Made.{Made}
-use Rattle.player.specs.Player.{state_of as playerState}
-use Rattle.player.specs.Promises.{Makes as PlayerMakes}
+use Rattle.player.specs.Player.{state_of as playerState, Valid as PlayerValid}
+use Rattle.player.specs.Promises.{Makes as PlayerMakes, first_player}
 use Rattle.ensemble_calls.specs.Ensembles.{VoiceRecord, seed_of, server_index, new_ensemble}
-use Rattle.ensemble_calls.specs.Questions.{make_questions}
 use Rattle.ensemble_calls.specs.Calls.{count_for, made}
 use Rattle.ensemble_player.specs.declared.Ensemble.{Ensemble}
-use Rattle.ensemble_player.specs.Ensembles.{record_of, new_member}
-use Rattle.ensemble_player.specs.Promises.{Makes}
+use Rattle.ensemble_player.specs.Ensembles.{record_of, new_member, state_of, Valid}
 use Rattle.settings.specs.declared.record.Settings.{Settings}
 
 -- ---- the first of a table
@@ -43,8 +40,6 @@ pub map_tabulate : {A B : Type 0} (g : A → B) (f : ℕ → A) (n : ℕ) → ma
 unfolding tabulate
 map_tabulate g f zero = refl
 map_tabulate g f (suc n) = map-append g (tabulate f n) (f n ∷ []) ∙ ap (λ l. l ++ (g (f n) ∷ [])) (map_tabulate g f n)
-
--- ---- how many voices
 
 count_in : (count : ℕ) → (2 ≤ count_for count) × (count_for count ≤ 16)
 unfolding count_for
@@ -66,36 +61,35 @@ none_played c seed = go (calls.makes c) (settings_at c)
 
 -- ---- the ensemble
 
-module _ (c : SettingsCodes) (shared count seed a : ℕ) (asked : a ≡ first_no (make_questions c shared count)) where
+module _ (c : SettingsCodes) (shared count seed : ℕ) where
   abbrev making : Player → List Member → ℕ → Ensemble
   making p members n = record { page = p.page; shared = is_yes shared; count = n; decks = record { server = p.deck; asked = None; members = members } }
 
-  pub makes_ensemble : (s : ℕ) (p : Made) (members : List Member) (n : ℕ) → s ≡ seed_of seed server_index → PlayerMakes c s p
-      → members ≡ tabulate (λ v. new_member (seed_of seed v)) 16 → n ≡ count_for count
-      → Makes c shared count seed (record { answer = a; ensemble = making p.player members n })
-  unfolding made new_ensemble
-  makes_ensemble s p members n seeded new voices counted =
-      record {
-        answer_is = asked;
-        state_is =
-            ap₂ (λ (q : State) (l : List VoiceRecord). record { lfo = q.lfo; shared = is_yes shared; voices = l; server = record { voice = q.voice; pending = None }; played = q.played })
-            server_is
-            (rw (voices, counted) (ap (map record_of) (take_tabulate (λ v. new_member (seed_of seed v)) (count_for count) 16 (count_in count).1) ∙ map_tabulate record_of (λ v. new_member (seed_of seed v)) (count_for count)));
-        valid = record {
-          server_valid = new.valid;
+  module _ (s : ℕ) (r : Result Player Question) (p : Player) (members : List Member) (n : ℕ) (seeded : s ≡ seed_of seed server_index) (new : PlayerMakes c s r) (first : p ≡ first_player s r)
+      (voices : members ≡ tabulate (λ v. new_member (seed_of seed v)) 16) (counted : n ≡ count_for count) where
+    server_is : playerState p ≡ calls.made c (seed_of seed server_index)
+    server_is = ap playerState first ∙ new.state_is ∙ ap (λ (z : ℕ). calls.made c z) seeded
+
+    pub made_state : state_of (making p members n) ≡ made c shared count seed
+    unfolding made new_ensemble
+    made_state =
+        ap₂ (λ (q : State) (l : List VoiceRecord). record { lfo = q.lfo; shared = is_yes shared; voices = l; server = record { voice = q.voice; pending = None }; played = q.played })
+        server_is
+        (rw (voices, counted) (ap (map record_of) (take_tabulate (λ v. new_member (seed_of seed v)) (count_for count) 16 (count_in count).1) ∙ map_tabulate record_of (λ v. new_member (seed_of seed v)) (count_for count)))
+
+    members_in : (v : ℕ) → v < n → AnchorIn p.deck.played (get_or members v no_member).voice.anchor
+    members_in v h =
+        let few : n ≤ 16 = rw counted (count_in count).1 in
+        let is : get_or members v no_member ≡ new_member (seed_of seed v) = ap (λ (l : List Member). get_or l v no_member) voices ∙ get_d_tabulate (λ u. new_member (seed_of seed u)) 16 v no_member (omega (arith, few, h)) in
+        let none : p.deck.played ≡ 0 = ap (λ (q : State). q.played) server_is ∙ none_played c (seed_of seed server_index) in
+        subst (λ (m : Member). AnchorIn p.deck.played m.voice.anchor) (sym is) (subst (λ (k : ℕ). AnchorIn k (new_member (seed_of seed v)).voice.anchor) (sym none) (new_voice_in (seed_of seed v)))
+
+    pub made_valid : Valid (making p members n)
+    made_valid =
+        record {
+          server_valid = subst (λ (q : Player). PlayerValid q) (sym first) new.valid;
           listed = rw voices (length_tabulate (λ v. new_member (seed_of seed v)) 16);
           several = rw counted (count_in count).0;
           few = rw counted (count_in count).1;
           members_in = members_in;
-        };
-      }
-    where
-      server_is : playerState p.player ≡ calls.made c (seed_of seed server_index)
-      server_is = new.state_is ∙ ap (λ (z : ℕ). calls.made c z) seeded
-
-      members_in : (v : ℕ) → v < n → AnchorIn p.player.deck.played (get_or members v no_member).voice.anchor
-      members_in v h =
-          let few : n ≤ 16 = rw counted (count_in count).1 in
-          let is : get_or members v no_member ≡ new_member (seed_of seed v) = ap (λ (l : List Member). get_or l v no_member) voices ∙ get_d_tabulate (λ u. new_member (seed_of seed u)) 16 v no_member (omega (arith, few, h)) in
-          let none : p.player.deck.played ≡ 0 = ap (λ (q : State). q.played) server_is ∙ none_played c (seed_of seed server_index) in
-          subst (λ (m : Member). AnchorIn p.player.deck.played m.voice.anchor) (sym is) (subst (λ (k : ℕ). AnchorIn k (new_member (seed_of seed v)).voice.anchor) (sym none) (new_voice_in (seed_of seed v)))
+        }

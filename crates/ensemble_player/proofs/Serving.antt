@@ -1,5 +1,5 @@
 -- A block in which the serving voice plays for all: what its calls ask, and what they give together. Assumes nothing.
-use Rattle.std.proofs.Common.{◌≡◌, ℕ, ◌+◌, ◌*◌, ◌^◌, ◌<◌, ◌≤◌, Bool, true, false, cond, List, ◌++◌, map, length, get_or, take, drop, replicate, sym, refl, ap, ◌∙◌, subst, arith, length-append, length-drop, take_at, le-leb, None, Option, Some}
+use Rattle.std.proofs.Common.{◌≡◌, ℕ, ◌+◌, ◌*◌, ◌^◌, ◌<◌, ◌≤◌, Bool, true, false, cond, List, ◌++◌, map, length, get_or, take, drop, replicate, sym, refl, ap, ◌∙◌, subst, arith, length-append, length-drop, length-take-le, take_at, le-leb, eqb-true, None, Option, Some, Result, Ok, Err, IsOk}
 use lib.ListN.{length-map}
 use lib.Ieee.{Float, nan}
 use Rattle.codes.specs.declared.TransportCodes.{TransportCodes}
@@ -13,7 +13,9 @@ use Rattle.columns.specs.Columns.{interleaved, FitAll}
 use Rattle.ensemble.specs.declared.Member.{Member}
 use Rattle.ensemble.specs.Ensemble.{no_member}
 use Rattle.columns.proofs.Places.{get_or_map_in}
+use Rattle.questions.specs.declared.question.Question.{Question}
 use Rattle.questions.specs.Questions.{first_no, block_questions}
+use Rattle.questions.proofs.Numbers.{number_not_zero}
 use Rattle.calls.specs.State.{State}
 use Rattle.calls.specs.Blocks.{pending_of, played_state, values, finished}
 use Rattle.calls.specs.Calls as calls
@@ -65,124 +67,131 @@ length_buffer p c n k xs ys f l h = go (calls.accepts p (calls.block c n k xs ys
 -- ---- the serving voice's, into buffers of its own
 
 module _ (e : Ensemble) (c : TransportCodes) (n : ℕ) (x y : List Float) (h : Ready e c n x y) (k : RestartCodes) (xs₀ ys₀ : List Float) (long_x : length xs₀ ≡ 4096) (long_y : length ys₀ ≡ 4096)
-    (got : PlayerPlayed) (xs ys : List Float) (plays : PlayerPlays (server_of e) c n k xs₀ ys₀ got xs ys) where
-  -- what `spread` asks
-  pub fits_x : (l : List Float) → length l ≡ length x → FitAll n e.count xs l
-  fits_x l same =
-      record {
-        short = (facts h).short;
-        few = h.valid.few;
-        full = omega (arith, ap length plays.x_is ∙ length_buffer (playerState (server_of e)) c n k xs₀ ys₀ (λ f. f.x) xs₀ (omega (arith, long_x, (facts h).short)), long_x, (facts h).short);
-        room = omega (arith, (facts h).room_x, same);
-      }
+    (codes : k ≡ restart_codes e.decks.asked) where
+  abbrev P : State
+  P = playerState (server_of e)
 
-  pub fits_y : (l : List Float) → length l ≡ length y → FitAll n e.count ys l
-  fits_y l same =
-      record {
-        short = (facts h).short;
-        few = h.valid.few;
-        full = omega (arith, ap length plays.y_is ∙ length_buffer (playerState (server_of e)) c n k xs₀ ys₀ (λ f. f.y) ys₀ (omega (arith, long_y, (facts h).short)), long_y, (facts h).short);
-        room = omega (arith, (facts h).room_y, same);
-      }
+  abbrev at : Option ℕ
+  at = e.decks.asked
 
-  -- ---- what the calls give together
+  own_taken : calls.accepts P (calls.block c n (restart_codes at) xs₀ ys₀) ≡ true
+  unfolding calls.answer calls.questions block_questions first_no
+  own_taken =
+      rw (
+        (facts h).transport.known,
+        codes_known at,
+        (facts h).transport.finite_all,
+        (facts h).transport.in_range,
+        le-leb n 4096 (facts h).short,
+        le-leb n (length xs₀) (omega (arith, long_x, (facts h).short)),
+        le-leb n (length ys₀) (omega (arith, long_y, (facts h).short)),
+        le-leb (e.decks.server.played + n) (2 ^ 40) (facts h).within_life,
+      ) refl
 
-  module _ (on : e.shared ≡ true) (codes : k ≡ restart_codes e.decks.asked) (members : List Member) (idle_are : members ≡ map (idle_member got.finished) e.decks.members) (x' y' : List Float)
-      (gx : x' ≡ interleaved nan n (replicate e.count (take n xs)) ++ drop (n * e.count) x) (gy : y' ≡ interleaved nan n (replicate e.count (take n ys)) ++ drop (n * e.count) y)
-      (t : Transport) (known : transport_at c ≡ Some t) where
-    abbrev S : EnsembleState
-    S = state_of e
+  -- it is not refused, since the ensemble's block is not
+  pub serves : (r : Result PlayerPlayed Question) (xs ys : List Float) → PlayerPlays (server_of e) c n k xs₀ ys₀ r xs ys → IsOk r
+  serves (Ok got) xs ys plays = refl
+  serves (Err q) xs ys plays =
+      absurd (number_not_zero q (plays.answer_is ∙ ap (λ (z : RestartCodes). calls.answer P (calls.block c n z xs₀ ys₀)) codes ∙ eqb-true _ _ own_taken))
 
-    abbrev P : State
-    P = playerState (server_of e)
+  module _ (got : PlayerPlayed) (xs ys : List Float) (plays : PlayerPlays (server_of e) c n k xs₀ ys₀ (Ok got) xs ys) where
+    pub room_xs : n ≤ length xs
+    room_xs = omega (arith, ap length plays.x_is ∙ length_buffer (playerState (server_of e)) c n k xs₀ ys₀ (λ f. f.x) xs₀ (omega (arith, long_x, (facts h).short)), long_x, (facts h).short)
 
-    abbrev at : Option ℕ
-    at = e.decks.asked
+    pub room_ys : n ≤ length ys
+    room_ys = omega (arith, ap length plays.y_is ∙ length_buffer (playerState (server_of e)) c n k xs₀ ys₀ (λ f. f.y) ys₀ (omega (arith, long_y, (facts h).short)), long_y, (facts h).short)
 
-    own : PlayerPlays (server_of e) c n (restart_codes at) xs₀ ys₀ got xs ys
-    own = subst (λ (z : RestartCodes). PlayerPlays (server_of e) c n z xs₀ ys₀ got xs ys) codes plays
+    -- what `spread` asks
+    fits : (vs l : List Float) → n ≤ length vs → n * e.count ≤ length l → FitAll (length (take n vs)) e.count (take n vs) l
+    fits vs l full room =
+        let all = length-take-le n vs full in
+        rw all (record { short = (facts h).short; few = h.valid.few; full = omega (arith, all); room = room })
 
-    own_taken : calls.accepts P (calls.block c n (restart_codes at) xs₀ ys₀) ≡ true
-    unfolding calls.answer calls.questions block_questions first_no
-    own_taken =
-        rw (
-          (facts h).transport.known,
-          codes_known at,
-          (facts h).transport.finite_all,
-          (facts h).transport.in_range,
-          le-leb n 4096 (facts h).short,
-          le-leb n (length xs₀) (omega (arith, long_x, (facts h).short)),
-          le-leb n (length ys₀) (omega (arith, long_y, (facts h).short)),
-          le-leb (e.decks.server.played + n) (2 ^ 40) (facts h).within_life,
-        ) refl
+    pub fits_x : (l : List Float) → length l ≡ length x → FitAll (length (take n xs)) e.count (take n xs) l
+    fits_x l same = fits xs l room_xs (omega (arith, (facts h).room_x, same))
 
-    player_is : playerState (with_deck (server_of e) got.deck) ≡ played_state P t n at
-    player_is = own.state_is ∙ server_runs P c n at xs₀ ys₀ t known own_taken
+    pub fits_y : (l : List Float) → length l ≡ length y → FitAll (length (take n ys)) e.count (take n ys) l
+    fits_y l same = fits ys l room_ys (omega (arith, (facts h).room_y, same))
 
-    done_on : got.finished ≡ finished P t n at
-    done_on = own.finished_is ∙ server_finished P c n at xs₀ ys₀ t known own_taken
+    -- ---- what the calls give together
 
-    abbrev idle : Member → Member
-    idle = idle_member got.finished
+    module _ (on : e.shared ≡ true) (members : List Member) (idle_are : members ≡ map (idle_member got.finished) e.decks.members) (x' y' : List Float)
+        (gx : x' ≡ interleaved nan (length (take n xs)) (replicate e.count (take n xs)) ++ drop (length (take n xs) * e.count) x)
+        (gy : y' ≡ interleaved nan (length (take n ys)) (replicate e.count (take n ys)) ++ drop (length (take n ys) * e.count) y)
+        (t : Transport) (known : transport_at c ≡ Some t) where
+      abbrev S : EnsembleState
+      S = state_of e
 
-    abbrev first : List Member
-    first = take e.count e.decks.members
+      own : PlayerPlays (server_of e) c n (restart_codes at) xs₀ ys₀ (Ok got) xs ys
+      own = subst (λ (z : RestartCodes). PlayerPlays (server_of e) c n z xs₀ ys₀ (Ok got) xs ys) codes plays
 
-    abbrev next : Decks
-    next = record { server = got.deck; asked = None; members = members }
+      player_is : playerState (with_deck (server_of e) got.deck) ≡ played_state P t n at
+      player_is = own.state_is ∙ server_runs P c n at xs₀ ys₀ t known own_taken
 
-    first_are : take e.count members ≡ map idle first
-    first_are = ap (take e.count) idle_are ∙ take_map idle e.count e.decks.members
+      done_on : got.finished ≡ finished P t n at
+      done_on = own.finished_is ∙ server_finished P c n at xs₀ ys₀ t known own_taken
 
-    abbrev after : VoiceRecord → VoiceRecord
-    after z = cond e.shared (with_pending z None) (played_record S t n z)
+      abbrev idle : Member → Member
+      idle = idle_member got.finished
 
-    state_after : state_of (with_decks e next) ≡ played_ensemble S t n
-    state_after =
-        go player_is
-        (ap (map record_of) first_are ∙ map_map record_of idle first ∙ map_through (λ (m : Member). record_of (idle m)) after (λ (m : Member). rw on refl) first)
-      where
-        go : {q : State} {l : List VoiceRecord} → q ≡ played_state P t n at → l ≡ map after S.voices
-            → ◌≡◌ {A = EnsembleState} (record { lfo = q.lfo; shared = e.shared; voices = l; server = record { voice = q.voice; pending = None }; played = q.played }) (played_ensemble S t n)
-        go q l = unfold played_ensemble played_record played_state in rw (q, l, on) refl
+      abbrev first : List Member
+      first = take e.count e.decks.members
 
-    finished_after : map (λ m. m.finished) (take e.count members) ≡ map (voice_finished S t n) S.voices
-    finished_after =
-        ap (map (λ (m : Member). m.finished)) first_are ∙ map_map (λ (m : Member). m.finished) idle first
-        ∙ map_through (λ (m : Member). got.finished) (voice_finished S t n) (λ (m : Member). done_on ∙ unfold voice_finished playing in rw on refl) first
+      abbrev next : Decks
+      next = record { server = got.deck; asked = None; members = members }
 
-    values_after : (f : Frame → Float) (l l' vs : List Float) → take n vs ≡ values P t n at f → l' ≡ interleaved nan n (replicate e.count (take n vs)) ++ drop (n * e.count) l
-        → l' ≡ ensemble_values S t n f ++ drop (n * e.count) l
-    values_after f l l' vs first is =
-        is
-        ∙ ap (λ (cols : List (List Float)). interleaved nan n cols ++ drop (n * e.count) l)
-        (ap (replicate e.count) first ∙ ap (λ (k : ℕ). replicate k (values P t n at f)) (sym (count_is e h.valid))
-        ∙ sym (map_one (voice_values S t n f) (values P t n at f) (λ (z : VoiceRecord). unfold voice_values playing in rw on refl) S.voices))
-        ∙ unfold ensemble_values in refl
+      first_are : take e.count members ≡ map idle first
+      first_are = ap (take e.count) idle_are ∙ take_map idle e.count e.decks.members
 
-    later : got.deck.played ≡ e.decks.server.played + n
-    later = ap (λ (p : State). p.played) player_is ∙ unfold played_state in refl
+      abbrev after : VoiceRecord → VoiceRecord
+      after z = cond e.shared (with_pending z None) (played_record S t n z)
 
-    valid_after : Valid (with_decks e next)
-    valid_after =
-        record {
-          server_valid = own.valid;
-          listed = ap length idle_are ∙ length-map e.decks.members idle ∙ h.valid.listed;
-          several = h.valid.several;
-          few = h.valid.few;
-          members_in = λ (v : ℕ) (k : v < e.count).
-              subst (λ (m : Member). AnchorIn got.deck.played m.voice.anchor)
-              (sym (ap (λ (l : List Member). get_or l v no_member) idle_are ∙ get_or_map_in idle e.decks.members v no_member no_member (omega (arith, h.valid.listed, h.valid.few))))
-              (subst (λ (f : ℕ). AnchorIn f (get_or e.decks.members v no_member).voice.anchor) (sym later)
-              (anchor_later (get_or e.decks.members v no_member).voice.anchor e.decks.server.played (e.decks.server.played + n) (omega arith) (h.valid.members_in v k)));
-        }
+      state_after : state_of (with_decks e next) ≡ played_ensemble S t n
+      state_after =
+          go player_is
+          (ap (map record_of) first_are ∙ map_map record_of idle first ∙ map_through (λ (m : Member). record_of (idle m)) after (λ (m : Member). rw on refl) first)
+        where
+          go : {q : State} {l : List VoiceRecord} → q ≡ played_state P t n at → l ≡ map after S.voices
+              → ◌≡◌ {A = EnsembleState} (record { lfo = q.lfo; shared = e.shared; voices = l; server = record { voice = q.voice; pending = None }; played = q.played }) (played_ensemble S t n)
+          go q l = unfold played_ensemble played_record played_state in rw (q, l, on) refl
 
-    pub served : PlaysBlock e t n x y next x' y'
-    served =
-        record {
-          state_is = state_after;
-          finished_is = finished_after;
-          x_is = values_after (λ f. f.x) x x' xs (ap (take n) own.x_is ∙ server_values P c n at xs₀ ys₀ t known own_taken (λ f. f.x) xs₀) gx;
-          y_is = values_after (λ f. f.y) y y' ys (ap (take n) own.y_is ∙ server_values P c n at xs₀ ys₀ t known own_taken (λ f. f.y) ys₀) gy;
-          valid = valid_after;
-        }
+      finished_after : map (λ m. m.finished) (take e.count members) ≡ map (voice_finished S t n) S.voices
+      finished_after =
+          ap (map (λ (m : Member). m.finished)) first_are ∙ map_map (λ (m : Member). m.finished) idle first
+          ∙ map_through (λ (m : Member). got.finished) (voice_finished S t n) (λ (m : Member). done_on ∙ unfold voice_finished playing in rw on refl) first
+
+      values_after : (f : Frame → Float) (l l' vs : List Float) → take n vs ≡ values P t n at f → l' ≡ interleaved nan n (replicate e.count (take n vs)) ++ drop (n * e.count) l
+          → l' ≡ ensemble_values S t n f ++ drop (n * e.count) l
+      values_after f l l' vs first is =
+          is
+          ∙ ap (λ (cols : List (List Float)). interleaved nan n cols ++ drop (n * e.count) l)
+          (ap (replicate e.count) first ∙ ap (λ (k : ℕ). replicate k (values P t n at f)) (sym (count_is e h.valid))
+          ∙ sym (map_one (voice_values S t n f) (values P t n at f) (λ (z : VoiceRecord). unfold voice_values playing in rw on refl) S.voices))
+          ∙ unfold ensemble_values in refl
+
+      later : got.deck.played ≡ e.decks.server.played + n
+      later = ap (λ (p : State). p.played) player_is ∙ unfold played_state in refl
+
+      valid_after : Valid (with_decks e next)
+      valid_after =
+          record {
+            server_valid = own.valid;
+            listed = ap length idle_are ∙ length-map e.decks.members idle ∙ h.valid.listed;
+            several = h.valid.several;
+            few = h.valid.few;
+            members_in = λ (v : ℕ) (k : v < e.count).
+                subst (λ (m : Member). AnchorIn got.deck.played m.voice.anchor)
+                (sym (ap (λ (l : List Member). get_or l v no_member) idle_are ∙ get_or_map_in idle e.decks.members v no_member no_member (omega (arith, h.valid.listed, h.valid.few))))
+                (subst (λ (f : ℕ). AnchorIn f (get_or e.decks.members v no_member).voice.anchor) (sym later)
+                (anchor_later (get_or e.decks.members v no_member).voice.anchor e.decks.server.played (e.decks.server.played + n) (omega arith) (h.valid.members_in v k)));
+          }
+
+      pub served : PlaysBlock e t n x y next x' y'
+      served =
+          record {
+            state_is = state_after;
+            finished_is = finished_after;
+            x_is = values_after (λ f. f.x) x x' xs (ap (take n) own.x_is ∙ server_values P c n at xs₀ ys₀ t known own_taken (λ f. f.x) xs₀) (rw (length-take-le n xs room_xs) at gx);
+            y_is = values_after (λ f. f.y) y y' ys (ap (take n) own.y_is ∙ server_values P c n at xs₀ ys₀ t known own_taken (λ f. f.y) ys₀) (rw (length-take-le n ys room_ys) at gy);
+            valid = valid_after;
+          }

@@ -1,10 +1,12 @@
 -- What asking for a restart gives, of the equations of what it calls. Assumes nothing.
-use Rattle.std.proofs.Common.{◌≡◌, ℕ, ◌<◌, Bool, true, false, eqb, List, length, get_or, set, sym, refl, ap, ◌∙◌, subst, ap₂, arith, length-set, get_or-set_other, get_or-set_same, ltb-true, eqb-true, Option, Some}
+use Rattle.std.proofs.Common.{◌≡◌, ℕ, ◌<◌, Bool, true, false, eqb, List, length, get_or, set, sym, refl, ap, ◌∙◌, subst, ap₂, arith, length-set, get_or-set_other, get_or-set_same, ltb-true, eqb-true, Option, Some, Ok, Err}
 use borrow.Author.Tests.{eqb-false}
 use Rattle.reach.specs.Bounds.{AnchorIn}
 use Rattle.voice.specs.declared.Voice.{Voice}
 use Rattle.ensemble.specs.declared.Member.{Member}
 use Rattle.ensemble.specs.Ensemble.{no_member}
+use Rattle.questions.specs.declared.question.Question.{Question}
+use Rattle.questions.specs.Answers.{question_number}
 use Rattle.questions.specs.Questions.{first_no}
 use Rattle.questions.proofs.Facts.{passed}
 use Rattle.ensemble_calls.specs.Ensembles.{VoiceRecord, with_pending, greatest, asked_ensemble}
@@ -16,17 +18,20 @@ use Rattle.ensemble_player.specs.Promises.{Changes}
 use Rattle.ensemble_player.proofs.Voices.{get_or_before, count_is, voice_at, voices_set}
 use Rattle.ensemble_player.proofs.Outcomes.{refused, changed}
 
-module _ (e : Ensemble) (valid : Valid e) (v at a : ℕ) (asked : a ≡ first_no (trigger_questions e.count v)) where
-  put : a ≡ answer (state_of e) (trigger v at)
+module _ (e : Ensemble) (valid : Valid e) (v at : ℕ) where
+  abbrev number : ℕ
+  number = first_no (trigger_questions e.count v)
+
+  number_is : number ≡ answer (state_of e) (trigger v at)
   unfolding answer questions
-  put = asked ∙ ap (λ (n : ℕ). first_no (trigger_questions n v)) (sym (count_is e valid))
+  number_is = ap (λ (n : ℕ). first_no (trigger_questions n v)) (sym (count_is e valid))
 
-  pub trigger_refused : (a ≡ 0 → ⊥) → Changes e (trigger v at) (record { answer = a; ensemble = e })
-  trigger_refused h = refused e (trigger v at) a put h valid
+  pub trigger_refused : (q : Question) → question_number q ≡ number → Changes e (trigger v at) (Err q)
+  trigger_refused q asked = refused e (trigger v at) q (asked ∙ number_is) valid
 
-  module _ (h : a ≡ 0) where
+  module _ (asked : 0 ≡ number) where
     pub below : v < e.count
-    below = ltb-true v e.count (unfold trigger_questions in (passed 15 _ _ (sym asked ∙ h)).0)
+    below = ltb-true v e.count (unfold trigger_questions in (passed 15 _ _ (sym asked)).0)
 
     pub in_array : v < length e.decks.members
     in_array = omega (arith, below, valid.listed, valid.few)
@@ -61,5 +66,5 @@ module _ (e : Ensemble) (valid : Valid e) (v at a : ℕ) (asked : a ≡ first_no
             members_in = λ (u : ℕ) (k : u < e.count). subst (λ (w : Voice). AnchorIn e.decks.server.played w.anchor) (sym (same_anchor u k (eqb u v) refl)) (valid.members_in u k);
           }
 
-      pub trigger_done : Changes e (trigger v at) (record { answer = a; ensemble = asking m p })
-      trigger_done = changed e (trigger v at) a put h (asking m p) asked_is asking_valid
+      pub trigger_done : Changes e (trigger v at) (Ok (asking m p))
+      trigger_done = changed e (trigger v at) (asked ∙ number_is) (asking m p) asked_is asking_valid

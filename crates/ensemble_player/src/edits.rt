@@ -4,9 +4,10 @@ ghost use Rattle.ensemble_calls.specs.Calls as call;
 ghost use Rattle.ensemble_player.specs.Ensembles.{paged_ensemble, Valid};
 ghost use Rattle.ensemble_player.specs.Promises.{Changes};
 
-use super::{Changed, Ensemble, server_of};
+use super::{Ensemble, server_of};
 use codes::{PathCodes, SettingsCodes, ShapeCodes};
 use player::Player;
+use questions::{Question, ask};
 
 // The ensemble with the page and the deck of this player.
 fn paged(e: Ensemble, server: Player, shared: bool) -> Ensemble
@@ -23,62 +24,38 @@ fn paged(e: Ensemble, server: Player, shared: bool) -> Ensemble
 }
 
 // Sets the settings, each number in its range, and whether one voice serves all.
-pub fn set_settings(e: Ensemble, c: SettingsCodes, shared: u64) -> Changed
+pub fn set_settings(e: Ensemble, c: SettingsCodes, shared: u64) -> Result<Ensemble, Question>
     requires { Valid e }
     ensures { Changes e (call.settings c shared) result }
 {
-    if shared >= 2 {
-        return Changed {
-            answer: 1,
-            ensemble: e,
-        };
-    }
-    let set = player::set_settings(server_of(e), c);
-    let answer = set.answer;
-    if answer != 0 {
-        return Changed {
-            answer,
-            ensemble: e,
-        };
-    }
-    Changed {
-        answer,
-        ensemble: paged(e, set.player, shared == 1),
-    }
+    ask(shared < 2, Question::Known)?;
+    let server = player::set_settings(server_of(e), c)?;
+    Ok(paged(e, server, shared == 1))
 }
 
 // Sets the shape: the first 64 of its points, and the loopback point.
-pub fn set_shape(e: Ensemble, c: ShapeCodes) -> Changed
+pub fn set_shape(e: Ensemble, c: ShapeCodes) -> Result<Ensemble, Question>
     requires { Valid e }
     ensures { Changes e (call.shape c) result }
 {
-    let set = player::set_shape(server_of(e), c);
-    Changed {
-        answer: set.answer,
-        ensemble: paged(e, set.player, e.shared),
-    }
+    let server = player::set_shape(server_of(e), c)?;
+    Ok(paged(e, server, e.shared))
 }
 
 // Sets the path: the first 64 of its points, and whether it is closed.
-pub fn set_path(e: Ensemble, c: PathCodes) -> Changed
+pub fn set_path(e: Ensemble, c: PathCodes) -> Result<Ensemble, Question>
     requires { Valid e }
     ensures { Changes e (call.path c) result }
 {
-    let set = player::set_path(server_of(e), c);
-    Changed {
-        answer: set.answer,
-        ensemble: paged(e, set.player, e.shared),
-    }
+    let server = player::set_path(server_of(e), c)?;
+    Ok(paged(e, server, e.shared))
 }
 
 // Sets one bus. A value equal to the stored one, 0 and -0 included, changes nothing.
-pub fn set_bus(e: Ensemble, bus: u64, value: f32) -> Changed
+pub fn set_bus(e: Ensemble, bus: u64, value: f32) -> Result<Ensemble, Question>
     requires { Valid e }
     ensures { Changes e (call.bus bus value) result }
 {
-    let set = player::set_bus(server_of(e), bus, value);
-    Changed {
-        answer: set.answer,
-        ensemble: paged(e, set.player, e.shared),
-    }
+    let server = player::set_bus(server_of(e), bus, value)?;
+    Ok(paged(e, server, e.shared))
 }

@@ -1,5 +1,6 @@
 // An ensemble of two to sixteen voices over one page, and every call on it. An ensemble goes in by value. A call that sets something or asks for a restart gives back an
-// ensemble; a block gives back what it changes, and the caller puts it in its place: `e.decks = r.decks`. A call that is refused gives back what it was handed.
+// ensemble; a block gives back what it changes, and the caller puts it in its place: `e.decks = r.decks`. A call that is refused gives the question that it fails, and the
+// caller keeps what it handed in.
 //
 // The serving voice with the page is a player (crate player), and an edit of the ensemble is an edit of it.
 // `Valid` of specs/Ensembles.antt is what every ensemble has: `make` ensures it, and each other call asks it and keeps it.
@@ -16,7 +17,7 @@ ghost use Rattle.ensemble_player.specs.Ensembles.{server_of};
 
 pub use edits::{set_bus, set_path, set_settings, set_shape};
 use ensemble::Member;
-pub use making::make;
+pub use making::{ensemble_of, make};
 pub use phases::phase;
 use player::{Deck, Player};
 pub use playing::play;
@@ -44,24 +45,9 @@ pub struct Ensemble {
     pub decks: Decks,
 }
 
-// What making an ensemble gives. Where the answer is not 0 the ensemble is not to be used.
-#[derive(Clone, Copy)]
-pub struct Made {
-    pub answer: u8,
-    pub ensemble: Ensemble,
-}
-
-// What a call that sets something or asks for a restart gives.
-#[derive(Clone, Copy)]
-pub struct Changed {
-    pub answer: u8,
-    pub ensemble: Ensemble,
-}
-
 // What playing a block gives: the decks after it, and whether each voice has reached the end of a One-shot in it.
 #[derive(Clone, Copy)]
 pub struct Played {
-    pub answer: u8,
     pub finished: [bool; MAX_VOICES],
     pub decks: Decks,
 }

@@ -2,13 +2,14 @@
 ghost use Rattle.std.specs.Prelude.{◌≡◌, ◌+◌, ◌^◌, ◌<◌};
 ghost use Rattle.listlaws.specs.Tables.{tabulate};
 ghost use Rattle.ensemble_calls.specs.Ensembles.{seed_of};
-ghost use Rattle.ensemble_calls.specs.Calls.{count_for};
-ghost use Rattle.ensemble_player.specs.Ensembles.{new_member};
+ghost use Rattle.ensemble_calls.specs.Calls.{count_for, made};
+ghost use Rattle.ensemble_player.specs.Ensembles.{state_of, Valid, new_member};
 ghost use Rattle.ensemble_player.specs.Promises.{Makes};
 
-use super::{Decks, Ensemble, MAX_VOICES, Made};
+use super::{Decks, Ensemble, MAX_VOICES};
 use codes::SettingsCodes;
 use ensemble::Member;
+use questions::Question;
 use voice::Voice;
 
 // The seed of voice `index`, as `Lfo::voice` of lfo/mod.rs has it.
@@ -55,24 +56,30 @@ fn count_for(count: u64) -> usize
     count as usize
 }
 
-// Makes an ensemble of `count` voices with these settings, their random values from `seed`.
-pub fn make(c: SettingsCodes, shared: u64, count: u64, seed: u64) -> Made
-    ensures { Makes c shared count seed result }
+// An ensemble for whoever has to have one, whatever the codes: of default settings where they are refused, of two voices where their number is.
+pub fn ensemble_of(c: SettingsCodes, shared: u64, count: u64, seed: u64) -> Ensemble
+    ensures state { state_of result ≡ made c shared count seed }
+    ensures valid { Valid result }
 {
-    let answer = ensemble_questions::make_answer(c, shared, count);
-    let made = player::make(c, seed_of(seed, 0xFFFF_FFFF_FFFF_FFFE));
-    let members = new_members(seed);
-    Made {
-        answer,
-        ensemble: Ensemble {
-            page: made.player.page,
-            shared: shared == 1,
-            count: count_for(count),
-            decks: Decks {
-                server: made.player.deck,
-                asked: None,
-                members,
-            },
+    let server_seed = seed_of(seed, 0xFFFF_FFFF_FFFF_FFFE);
+    let made = player::make(c, server_seed);
+    let server = made.unwrap_or(player::default_player(server_seed));
+    Ensemble {
+        page: server.page,
+        shared: shared == 1,
+        count: count_for(count),
+        decks: Decks {
+            server: server.deck,
+            asked: None,
+            members: new_members(seed),
         },
     }
+}
+
+// Makes an ensemble of `count` voices with these settings, their random values from `seed`.
+pub fn make(c: SettingsCodes, shared: u64, count: u64, seed: u64) -> Result<Ensemble, Question>
+    ensures { Makes c shared count seed result }
+{
+    ensemble_questions::make_answer(c, shared, count)?;
+    Ok(ensemble_of(c, shared, count, seed))
 }

@@ -3,13 +3,14 @@ ghost use Rattle.std.specs.Prelude.{◌≡◌, ◌≤◌, true, false, map, leng
 ghost use Rattle.listlaws.specs.Tables.{padded};
 ghost use Rattle.ensemble_calls.specs.AsPlayer.{restart_codes};
 ghost use Rattle.ensemble_player.specs.Ensembles.{Valid, idle_member};
-ghost use Rattle.ensemble_player.specs.Plays.{Plays, refused_with, Ready, ReadyAt, PlaysBlock};
+ghost use Rattle.ensemble_player.specs.Plays.{Plays, Ready, ReadyAt, PlaysBlock};
 ghost use Rattle.settings.specs.declared.record.Transport.{Transport};
 ghost use Rattle.settings.specs.Codes.{transport_at};
 
 use super::{Decks, Ensemble, MAX_VOICES, Played, server_of};
 use codes::{RestartCodes, TransportCodes};
 use ensemble::Member;
+use questions::Question;
 use settings::Transport;
 
 // The most frames of a block.
@@ -50,14 +51,14 @@ fn idle_members(mut list: [Member; MAX_VOICES], finished: bool) -> [Member; MAX_
     list
 }
 
-// Whether each of `count` voices has finished.
-fn finished_of(members: [Member; MAX_VOICES], count: usize) -> [bool; MAX_VOICES]
-    requires { (count ≤ 16) × (length members ≡ 16) }
-    ensures { result ≡ padded 16 false (map (λ m. m.finished) (take count members)) }
+// Whether each of these voices has finished.
+fn finished_of(voices: &[Member]) -> [bool; MAX_VOICES]
+    requires { length voices.now ≤ 16 }
+    ensures { result ≡ padded 16 false (map (λ m. m.finished) voices.now) }
 {
     let mut out = [false; MAX_VOICES];
-    for v in 0..count {
-        out[v] = members[v].finished;
+    for (v, m) in voices.iter().enumerate() {
+        out[v] = m.finished;
     }
     out
 }
@@ -70,10 +71,10 @@ fn play_shared(e: Ensemble, t: TransportCodes, frames: u64, x: &mut [f32], y: &m
     let restart = restart_codes(e.decks.asked);
     let mut xs = [0.0f32; MAX_FRAMES];
     let mut ys = [0.0f32; MAX_FRAMES];
-    let r = player::play(server_of(e), t, frames, restart, &mut xs, &mut ys);
+    let r = player::play(server_of(e), t, frames, restart, &mut xs, &mut ys).unwrap();
     let n = frames as usize;
-    columns::spread(&xs, n, e.count, x);
-    columns::spread(&ys, n, e.count, y);
+    columns::spread(&xs[..n], e.count, x);
+    columns::spread(&ys[..n], e.count, y);
     let members = idle_members(e.decks.members, r.finished);
     Decks {
         server: r.deck,
@@ -90,7 +91,7 @@ fn play_apart(e: Ensemble, t: Transport, frames: usize, x: &mut [f32], y: &mut [
     let mut server = e.decks.server;
     let prepared = clock::prepare(e.page.settings, server.clock, t, frames as u64);
     let all = ensemble::block_page(e.page, prepared.block, frames, e.count);
-    let members = ensemble::play_members(e.decks.members, e.count, all, x, y);
+    let members = ensemble::play_members(e.decks.members, all, x, y);
     server.clock = prepared.clock;
     server.played = server.played + frames as u64;
     Decks {
@@ -100,40 +101,25 @@ fn play_apart(e: Ensemble, t: Transport, frames: usize, x: &mut [f32], y: &mut [
     }
 }
 
-// What a block that is refused gives: the decks that it was handed, and no voice finished.
-fn refused(answer: u8, decks: Decks) -> Played
-    ensures { result ≡ refused_with answer decks }
-{
-    let finished = [false; MAX_VOICES];
-    Played {
-        answer,
-        finished,
-        decks,
-    }
-}
-
 // Plays a block of `frames` frames from the transport at its first sample into the first of x and y, frame by frame one value of each voice.
-pub fn play(e: Ensemble, t: TransportCodes, frames: u64, x: &mut [f32], y: &mut [f32]) -> Played
+pub fn play(
+    e: Ensemble,
+    t: TransportCodes,
+    frames: u64,
+    x: &mut [f32],
+    y: &mut [f32],
+) -> Result<Played, Question>
     requires { Valid e }
     ensures { Plays e t frames x.old y.old result x.new y.new }
 {
     let played = e.decks.server.played;
-    let answer = ensemble_questions::play_answer(e.count, played, t, frames, x.len(), y.len());
-    if answer != 0 {
-        return refused(answer, e.decks);
-    }
-    let Some(transport) = Transport::from_codes(t) else {
-        return refused(answer, e.decks);
-    };
+    ensemble_questions::play_answer(e.count, played, t, frames, x.len(), y.len())?;
+    let transport = Transport::from_codes(t).ok_or(Question::Known)?;
     let decks = if e.shared {
         play_shared(e, t, frames, x, y)
     } else {
         play_apart(e, transport, frames as usize, x, y)
     };
-    let finished = finished_of(decks.members, e.count);
-    Played {
-        answer,
-        finished,
-        decks,
-    }
+    let finished = finished_of(&decks.members[..e.count]);
+    Ok(Played { finished, decks })
 }

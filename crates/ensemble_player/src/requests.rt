@@ -5,8 +5,9 @@ ghost use Rattle.ensemble_calls.specs.Calls as call;
 ghost use Rattle.ensemble_player.specs.Ensembles.{Valid, asked_member};
 ghost use Rattle.ensemble_player.specs.Promises.{Changes};
 
-use super::{Changed, Decks, Ensemble};
+use super::{Decks, Ensemble};
 use ensemble::Member;
+use questions::Question;
 
 // The greater of the frames asked for.
 #[tactic(auto, unfolding(ensemble_calls::specs::Ensembles::greatest))]
@@ -30,17 +31,11 @@ fn asked_member(m: Member, at: usize) -> Member
 }
 
 // Asks voice v to restart at frame `at` of the next block, over what was asked of it before.
-pub fn trigger(e: Ensemble, v: u64, at: u64) -> Changed
+pub fn trigger(e: Ensemble, v: u64, at: u64) -> Result<Ensemble, Question>
     requires { Valid e }
     ensures { Changes e (call.trigger v at) result }
 {
-    let answer = ensemble_questions::trigger_answer(e.count, v);
-    if answer != 0 {
-        return Changed {
-            answer,
-            ensemble: e,
-        };
-    }
+    ensemble_questions::trigger_answer(e.count, v)?;
     let k = v as usize;
     let frame = at as usize;
     let mut members = e.decks.members;
@@ -50,8 +45,5 @@ pub fn trigger(e: Ensemble, v: u64, at: u64) -> Changed
         asked: greater(e.decks.asked, frame),
         members,
     };
-    Changed {
-        answer,
-        ensemble: Ensemble { decks, ..e },
-    }
+    Ok(Ensemble { decks, ..e })
 }

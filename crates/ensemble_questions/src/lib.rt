@@ -1,52 +1,46 @@
-// The questions of an ensemble's calls: the number of the first one that a call fails, 0 where there is none.
+// The questions of an ensemble's calls, and the first one that a call fails.
 #![tactic(auto)]
 
 ghost use Rattle.std.specs.Prelude.{◌≡◌, ◌&&◌, ◌*◌, ◌≤◌, leb};
+ghost use Rattle.questions.specs.Answers.{answer_of};
 ghost use Rattle.questions.specs.Questions.{first_no};
 ghost use Rattle.ensemble_calls.specs.Questions.{page_questions, make_questions, trigger_questions, voice_phase_questions, play_questions};
 
 use codes::{SettingsCodes, TransportCodes};
+use questions::{Question, ask};
 
 // Setting the settings, with the code of shared.
-fn page_answer(c: SettingsCodes, shared: u64) -> u8
-    ensures { result ≡ first_no (page_questions c shared) }
+#[tactic(auto, unfolding(questions::specs::Questions::first_no, ensemble_calls::specs::Questions::page_questions))]
+fn page_answer(c: SettingsCodes, shared: u64) -> Result<(), Question>
+    ensures { answer_of result ≡ first_no (page_questions c shared) }
 {
-    if shared >= 2 {
-        return 1;
-    }
+    ask(shared < 2, Question::Known)?;
     questions::settings_answer(c)
 }
 
 // Making an ensemble of `count` voices.
-pub fn make_answer(c: SettingsCodes, shared: u64, count: u64) -> u8
-    ensures { result ≡ first_no (make_questions c shared count) }
+#[tactic(auto, unfolding(questions::specs::Questions::first_no, ensemble_calls::specs::Questions::make_questions))]
+pub fn make_answer(c: SettingsCodes, shared: u64, count: u64) -> Result<(), Question>
+    ensures { answer_of result ≡ first_no (make_questions c shared count) }
 {
-    if count < 2 {
-        return 15;
-    }
-    if count > 16 {
-        return 15;
-    }
+    ask((2..=16).contains(&count), Question::Voices)?;
     page_answer(c, shared)
 }
 
 // Asking for a restart of voice v.
-pub fn trigger_answer(count: usize, v: u64) -> u8
-    ensures { result ≡ first_no (trigger_questions count v) }
+#[tactic(auto, unfolding(questions::specs::Questions::first_no, ensemble_calls::specs::Questions::trigger_questions))]
+pub fn trigger_answer(count: usize, v: u64) -> Result<(), Question>
+    ensures { answer_of result ≡ first_no (trigger_questions count v) }
 {
-    if v >= count as u64 {
-        return 16;
-    }
-    0
+    ask(v < count as u64, Question::Voice)
 }
 
 // Reading the phase of voice v.
-pub fn voice_phase_answer(count: usize, v: u64, t: TransportCodes) -> u8
-    ensures { result ≡ first_no (voice_phase_questions count v t) }
+#[tactic(auto, unfolding(questions::specs::Questions::first_no, ensemble_calls::specs::Questions::voice_phase_questions))]
+pub fn voice_phase_answer(count: usize, v: u64, t: TransportCodes) -> Result<(), Question>
+    ensures { answer_of result ≡ first_no (voice_phase_questions count v t) }
 {
-    if v >= count as u64 {
-        return 16;
-    }
+    ask(v < count as u64, Question::Voice)?;
     questions::phase_answer(t)
 }
 
@@ -63,6 +57,7 @@ fn play_fits(count: usize, frames: u64, x_len: usize, y_len: usize) -> bool
 }
 
 // Playing a block of `frames` frames by `count` voices that have played so many, into buffers of these lengths.
+#[tactic(auto, unfolding(questions::specs::Questions::first_no, questions::specs::Questions::phase_questions, ensemble_calls::specs::Questions::play_questions))]
 pub fn play_answer(
     count: usize,
     played: u64,
@@ -70,19 +65,11 @@ pub fn play_answer(
     frames: u64,
     x_len: usize,
     y_len: usize,
-) -> u8
+) -> Result<(), Question>
     requires { count ≤ 16 }
-    ensures { result ≡ first_no (play_questions count played t frames x_len y_len) }
+    ensures { answer_of result ≡ first_no (play_questions count played t frames x_len y_len) }
 {
-    let answer = questions::phase_answer(t);
-    if answer != 0 {
-        return answer;
-    }
-    if !play_fits(count, frames, x_len, y_len) {
-        return 7;
-    }
-    if played > (1 << 40) - frames {
-        return 8;
-    }
-    0
+    questions::phase_answer(t)?;
+    ask(play_fits(count, frames, x_len, y_len), Question::Room)?;
+    ask(played <= (1 << 40) - frames, Question::Played)
 }

@@ -1,5 +1,3 @@
-pub mod Turning
-pub mod Readings
-pub mod Replying
+pub mod Answering
 pub mod Playing
 pub mod Enough

@@ -4,13 +4,12 @@ ghost use Rattle.outputs.specs.Numbers.{flag_of, sevens};
 ghost use Rattle.ensemble_calls.specs.Calls as Calls;
 ghost use Rattle.ensemble_player.specs.Ensembles.{Valid};
 ghost use Rattle.ensemble_runner.specs.Asked.{block_call};
-ghost use Rattle.ensemble_runner.specs.Promises.{how_many, TurnsOn, TurnsBy};
+ghost use Rattle.ensemble_runner.specs.Promises.{TurnsOn, TurnsBy};
 
-use super::Turn;
-use super::writing::turn_of;
 use codes::TransportCodes;
 use ensemble_player::Ensemble;
 use fields::Fault;
+use run_calls::{Next, Turn, flag, say};
 
 // The most elements of a buffer.
 const MOST: usize = 65600;
@@ -23,118 +22,68 @@ const MAX_VOICES: usize = 16;
 
 const MAX_NUMBERS: usize = 17;
 
-// No as 0, yes as 1.
-fn flag(b: bool) -> u64
-    ensures { result ≡ flag_of b }
-{
-    if b { 1 } else { 0 }
+// A block as it is asked for, and the lengths of its buffers.
+#[derive(Clone, Copy)]
+struct Block {
+    transport: TransportCodes,
+    frames: u64,
+    x_len: usize,
+    y_len: usize,
 }
 
-// The answer, and then one finished a voice.
-fn numbers_of(answer: u8, finished: [bool; MAX_VOICES]) -> [u64; MAX_NUMBERS]
+// The numbers of a block that is accepted: 0, and then one finished a voice.
+fn numbers_of(finished: [bool; MAX_VOICES]) -> [u64; MAX_NUMBERS]
     requires { length finished ≡ 16 }
-    ensures { result ≡ answer ∷ map flag_of finished }
+    ensures { result ≡ 0 ∷ map flag_of finished }
 {
     let mut numbers = [0u64; MAX_NUMBERS];
-    numbers[0] = answer as u64;
     for v in 0..MAX_VOICES {
         numbers[v + 1] = flag(finished[v]);
     }
     numbers
 }
 
-// How many of them there are: where the answer is 0, all of `count` voices.
-fn how_many(answer: u8, count: usize) -> usize
-    requires { count ≤ 16 }
-    ensures { result ≡ how_many answer count }
-{
-    if answer == 0 { 1 + count } else { 1 }
-}
-
-// A buffer as it is before a block.
-fn full() -> [f32; MOST]
-    ensures { result ≡ sevens 65600 }
-{
-    [7.0f32; MOST]
-}
-
-// Plays a block into x and y, and writes what it gives.
-fn play(
-    t: TransportCodes,
-    frames: u64,
-    x: &mut [f32],
-    y: &mut [f32],
-    at: usize,
-    e: Ensemble,
-    out: &mut [u8],
-    place: usize,
-) -> Turn
-    requires { Valid e × (length x.old ≤ 65600) × (length y.old ≤ 65600) }
-    ensures { TurnsBy (Calls.block t frames x.old y.old) at e out.old place result out.new }
-{
-    let r = ensemble_player::play(e, t, frames, x, y);
-    let decks = r.decks;
-    let finished = r.finished;
-    let mut after = e;
-    after.decks = decks;
-    let numbers = numbers_of(r.answer, finished);
-    let count = how_many(r.answer, e.count);
-    let w = replies::write_lists(out, place, &numbers[..count], x, y);
-    turn_of(w, place, at, true, after)
-}
-
 // Plays a block into buffers of 7.0, and writes what it gives.
-fn play_anew(
-    t: TransportCodes,
-    frames: u64,
-    x_len: usize,
-    y_len: usize,
-    at: usize,
-    e: Ensemble,
-    out: &mut [u8],
-    place: usize,
-) -> Turn
-    requires { Valid e × (x_len ≤ 65600) × (y_len ≤ 65600) }
-    ensures { TurnsBy (Calls.block t frames (sevens x_len) (sevens y_len)) at e out.old place result out.new }
+fn play(b: Block, from: Next<Ensemble>, out: &mut [u8], place: usize) -> Turn<Ensemble>
+    requires { Valid from.player × (b.x_len ≤ 65600) × (b.y_len ≤ 65600) }
+    ensures { TurnsBy (Calls.block b.transport b.frames (sevens b.x_len) (sevens b.y_len)) from out.old place result out.new }
 {
-    let mut x = full();
-    let mut y = full();
-    play(
-        t,
-        frames,
-        &mut x[..x_len],
-        &mut y[..y_len],
-        at,
-        e,
-        out,
-        place,
-    )
+    let mut x = [7.0f32; MOST];
+    let mut y = [7.0f32; MOST];
+    let x = &mut x[..b.x_len];
+    let y = &mut y[..b.y_len];
+    let mut player = from.player;
+    match ensemble_player::play(player, b.transport, b.frames, x, y) {
+        Ok(r) => {
+            player.decks = r.decks;
+            let numbers = numbers_of(r.finished);
+            let next = Next { player, ..from };
+            say(out, place, &numbers[..1 + player.count], x, y, Some(next))
+        }
+        Err(q) => say(out, place, &[q.number() as u64], x, y, Some(from)),
+    }
 }
 
 // Reads a block's bytes, plays it, and writes what it gives.
 #[tactic(auto, unfolding(crate::specs::Asked::block_call, fields::specs::Parser::after))]
 pub fn block_turn(
     run: &[u8],
-    at: usize,
-    e: Ensemble,
+    from: Next<Ensemble>,
     out: &mut [u8],
     place: usize,
-) -> Result<Turn, Fault>
-    requires { Valid e }
-    ensures { TurnsOn block_call run.now at e out.old place result out.new }
+) -> Result<Turn<Ensemble>, Fault>
+    requires { Valid from.player }
+    ensures { TurnsOn block_call run.now from out.old place result out.new }
 {
-    let (transport, at) = runs::read_transport(run, at)?;
+    let (transport, at) = runs::read_transport(run, from.at)?;
     let (frames, at) = fields::read_number(run, at)?;
     let (x_len, at) = fields::read_below(run, at, LIMIT)?;
     let (y_len, at) = fields::read_below(run, at, LIMIT)?;
-    Ok(play_anew(
+    let block = Block {
         transport,
         frames,
-        x_len as usize,
-        y_len as usize,
-        at,
-        e,
-        out,
-        place,
-    ))
+        x_len: x_len as usize,
+        y_len: y_len as usize,
+    };
+    Ok(play(block, Next { at, ..from }, out, place))
 }

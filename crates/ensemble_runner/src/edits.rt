@@ -1,62 +1,91 @@
 // The calls that set something, tags 0 to 3, and the one that asks for a restart, tag 9.
 ghost use Rattle.ensemble_player.specs.Ensembles.{Valid};
 ghost use Rattle.ensemble_runner.specs.Asked.{settings_call, shape_call, path_call, bus_call, trigger_call};
-ghost use Rattle.ensemble_runner.specs.Promises.{RepliesTo};
+ghost use Rattle.ensemble_runner.specs.Promises.{TurnsOn};
 
-use super::Reply;
-use super::writing::changed;
 use ensemble_player::Ensemble;
 use fields::Fault;
+use run_calls::{Next, Turn, say_change};
 
 // Tag 0: the settings, and whether one voice serves all.
 #[tactic(auto, unfolding(crate::specs::Asked::settings_call, fields::specs::Parser::after))]
-pub fn settings_reply(run: &[u8], at: usize, e: Ensemble) -> Result<Reply, Fault>
-    requires { Valid e }
-    ensures { RepliesTo settings_call run.now at e result }
+pub fn settings_turn(
+    run: &[u8],
+    from: Next<Ensemble>,
+    out: &mut [u8],
+    place: usize,
+) -> Result<Turn<Ensemble>, Fault>
+    requires { Valid from.player }
+    ensures { TurnsOn settings_call run.now from out.old place result out.new }
 {
-    let (codes, at) = runs::read_settings(run, at)?;
+    let (codes, at) = runs::read_settings(run, from.at)?;
     let (shared, at) = fields::read_number(run, at)?;
-    Ok(changed(ensemble_player::set_settings(e, codes, shared), at))
+    let changed = ensemble_player::set_settings(from.player, codes, shared);
+    Ok(say_change(changed, Next { at, ..from }, out, place))
 }
 
 // Tag 1: the shape.
 #[tactic(auto, unfolding(crate::specs::Asked::shape_call, fields::specs::Parser::after))]
-pub fn shape_reply(run: &[u8], at: usize, e: Ensemble) -> Result<Reply, Fault>
-    requires { Valid e }
-    ensures { RepliesTo shape_call run.now at e result }
+pub fn shape_turn(
+    run: &[u8],
+    from: Next<Ensemble>,
+    out: &mut [u8],
+    place: usize,
+) -> Result<Turn<Ensemble>, Fault>
+    requires { Valid from.player }
+    ensures { TurnsOn shape_call run.now from out.old place result out.new }
 {
-    let (codes, at) = runs::read_shape(run, at)?;
-    Ok(changed(ensemble_player::set_shape(e, codes), at))
+    let (codes, at) = runs::read_shape(run, from.at)?;
+    let changed = ensemble_player::set_shape(from.player, codes);
+    Ok(say_change(changed, Next { at, ..from }, out, place))
 }
 
 // Tag 2: the path.
 #[tactic(auto, unfolding(crate::specs::Asked::path_call, fields::specs::Parser::after))]
-pub fn path_reply(run: &[u8], at: usize, e: Ensemble) -> Result<Reply, Fault>
-    requires { Valid e }
-    ensures { RepliesTo path_call run.now at e result }
+pub fn path_turn(
+    run: &[u8],
+    from: Next<Ensemble>,
+    out: &mut [u8],
+    place: usize,
+) -> Result<Turn<Ensemble>, Fault>
+    requires { Valid from.player }
+    ensures { TurnsOn path_call run.now from out.old place result out.new }
 {
-    let (codes, at) = runs::read_path(run, at)?;
-    Ok(changed(ensemble_player::set_path(e, codes), at))
+    let (codes, at) = runs::read_path(run, from.at)?;
+    let changed = ensemble_player::set_path(from.player, codes);
+    Ok(say_change(changed, Next { at, ..from }, out, place))
 }
 
 // Tag 3: one bus.
 #[tactic(auto, unfolding(crate::specs::Asked::bus_call, fields::specs::Parser::after))]
-pub fn bus_reply(run: &[u8], at: usize, e: Ensemble) -> Result<Reply, Fault>
-    requires { Valid e }
-    ensures { RepliesTo bus_call run.now at e result }
+pub fn bus_turn(
+    run: &[u8],
+    from: Next<Ensemble>,
+    out: &mut [u8],
+    place: usize,
+) -> Result<Turn<Ensemble>, Fault>
+    requires { Valid from.player }
+    ensures { TurnsOn bus_call run.now from out.old place result out.new }
 {
-    let (bus, at) = fields::read_number(run, at)?;
+    let (bus, at) = fields::read_number(run, from.at)?;
     let (value, at) = fields::read_f32(run, at)?;
-    Ok(changed(ensemble_player::set_bus(e, bus, value), at))
+    let changed = ensemble_player::set_bus(from.player, bus, value);
+    Ok(say_change(changed, Next { at, ..from }, out, place))
 }
 
 // Tag 9: a restart asked for.
 #[tactic(auto, unfolding(crate::specs::Asked::trigger_call, fields::specs::Parser::after))]
-pub fn trigger_reply(run: &[u8], at: usize, e: Ensemble) -> Result<Reply, Fault>
-    requires { Valid e }
-    ensures { RepliesTo trigger_call run.now at e result }
+pub fn trigger_turn(
+    run: &[u8],
+    from: Next<Ensemble>,
+    out: &mut [u8],
+    place: usize,
+) -> Result<Turn<Ensemble>, Fault>
+    requires { Valid from.player }
+    ensures { TurnsOn trigger_call run.now from out.old place result out.new }
 {
-    let (voice, at) = fields::read_number(run, at)?;
+    let (voice, at) = fields::read_number(run, from.at)?;
     let (frame, at) = fields::read_number(run, at)?;
-    Ok(changed(ensemble_player::trigger(e, voice, frame), at))
+    let changed = ensemble_player::trigger(from.player, voice, frame);
+    Ok(say_change(changed, Next { at, ..from }, out, place))
 }

@@ -6,44 +6,15 @@ mod block;
 mod calling;
 mod edits;
 mod values;
-mod writing;
 
 ghost use Rattle.ensemble_runner.specs.Output.{Runs};
 
-use ensemble_player::Ensemble;
-use writing::MALFORMED;
-
-// What a call that gives no list of floats gives: the first `count` of the numbers; from where in the run it goes on, if it goes on; and the
-// ensemble after it.
-#[derive(Clone, Copy)]
-pub struct Reply {
-    pub numbers: [u64; 2],
-    pub count: usize,
-    pub at: usize,
-    pub going: bool,
-    pub ensemble: Ensemble,
-}
-
-// How it goes on after a call's numbers were written: from where in the run, if it goes on; from where in the output; and the ensemble.
-#[derive(Clone, Copy)]
-pub struct Turn {
-    pub at: usize,
-    pub going: bool,
-    pub place: usize,
-    pub ensemble: Ensemble,
-}
+use calling::Ensembles;
 
 // Reads the calls of `run` one by one, makes them on one ensemble, and writes what each gives to `out`. Answers how many bytes it wrote.
 #[unsafe(no_mangle)]
 pub extern "C" fn lfo_ensemble_run(run: &[u8], out: &mut [u8]) -> u64
     ensures { Runs run.now out.old result out.new }
 {
-    let Ok(first) = calling::made(run) else {
-        return replies::write_numbers(out, 0, &[MALFORMED]).unwrap_or(0) as u64;
-    };
-    let t = writing::write_reply(out, 0, first);
-    if t.going {
-        return calling::calls(run, t.at, out, t.place, t.ensemble) as u64;
-    }
-    t.place as u64
+    run_calls::run::<Ensembles>(run, out)
 }

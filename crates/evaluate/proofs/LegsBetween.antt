@@ -19,8 +19,7 @@ use Rattle.curves.specs.Given.{is_yes, no_path_point_codes, given_path}
 use Rattle.questions.specs.Questions.{first_no, path_questions}
 use Rattle.questions.proofs.Facts.{path_accepted}
 use Rattle.questions.proofs.KeptPoints.{kept_x, kept_y, kept_on_paper}
-use Rattle.evaluate.specs.declared.Legs.{Legs}
-use Rattle.evaluate.specs.Values.{refused_legs, evaluated_legs}
+use Rattle.evaluate.specs.Values.{LegsAnswer, refused_legs, evaluated_legs}
 use Rattle.evaluate.specs.Legs.{LegsBetween, LegLaw}
 
 module _ (c : PathCodes) (accepted : first_no (path_questions true c) ≡ 0) where
@@ -44,7 +43,7 @@ module _ (c : PathCodes) (accepted : first_no (path_questions true c) ≡ 0) whe
       rw (← kept_x true c a j J, ← kept_y true c a j J, ← kept_x true c a k K, ← kept_y true c a k K)
       (legs_between (given_path c) (kept_on_paper true c a) j h)
 
-  abbrev answered : Legs
+  abbrev answered : LegsAnswer
   answered = let p = given_path c in record { answer = 0; count = segments_of p.len p.closed; lengths = path_legs p }
 
   answered_is : answered ≡ evaluated_legs c
@@ -60,7 +59,7 @@ told : (c : PathCodes) → (evaluated_legs c).answer ≡ 0 → first_no (path_qu
 unfolding evaluated_legs
 told c = let a = first_no (path_questions true c) in go a (eqb a 0) _ refl
   where
-    go : (a : ℕ) (b : Bool) (r : Legs) → eqb a 0 ≡ b → (cond b r (refused_legs a)).answer ≡ 0 → a ≡ 0
+    go : (a : ℕ) (b : Bool) (r : LegsAnswer) → eqb a 0 ≡ b → (cond b r (refused_legs a)).answer ≡ 0 → a ≡ 0
     go a true r e h = eqb-true a 0 e
     go a false r e h = h
 

@@ -6,15 +6,14 @@ use Rattle.path_segments.specs.Times.{segments_of}
 use Rattle.codes.specs.declared.PathPointCodes.{PathPointCodes}
 use Rattle.codes.specs.declared.PathCodes.{PathCodes}
 use Rattle.curves.specs.Given.{is_yes, no_path_point_codes}
-use Rattle.evaluate.specs.declared.Legs.{Legs}
-use Rattle.evaluate.specs.Values.{evaluated_legs}
+use Rattle.evaluate.specs.Values.{LegsAnswer, evaluated_legs}
 
 module _ (c : PathCodes) where
   abbrev at : ℕ → PathPointCodes
   at k = get_or c.points k no_path_point_codes
 
   -- "for each leg between the kept points, before any modulation, the f32 nearest to the root of the sum of squares": there is one for each segment, and after the last point comes the first
-  pub record LegsBetween (r : Legs) : Type 0 where
+  pub record LegsBetween (r : LegsAnswer) : Type 0 where
     pub count_is : r.count ≡ segments_of (min c.count 64) (is_yes c.closed)
     pub each : (j : ℕ) → j < r.count
         → let k = (j + 1) % min c.count 64 in LegBetween (at j).x (at j).y (at k).x (at k).y (get_or r.lengths j nan)

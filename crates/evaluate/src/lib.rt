@@ -3,78 +3,47 @@
 #![tactic(auto)]
 
 ghost use Rattle.std.specs.Prelude.{◌≡◌};
-ghost use Rattle.evaluate.specs.Values.{shape_result_answer, evaluated_shape, path_result_answer, evaluated_path, evaluated_legs};
+ghost use Rattle.questions.specs.Answers.{result_answer, one_value};
+ghost use Rattle.evaluate.specs.Values.{evaluated_shape, place_values, evaluated_path, legs_answer, evaluated_legs};
 
 use codes::{PathCodes, ShapeCodes};
+use path_segments::Xy;
 use points::MAX_POINTS;
+use questions::Question;
 
-// The number of the question that refused the call, or the value of a shape.
-#[derive(Clone, Copy)]
-pub enum ShapeResult {
-    Refused(u8),
-    At(f32),
-}
-
-// The number of the question that refused the call, or X and Y of a path.
-#[derive(Clone, Copy)]
-pub enum PathResult {
-    Refused(u8),
-    At { x: f32, y: f32 },
-}
-
-// The number of the question that refused the call, and then no leg; or 0, how many legs a path has, and their lengths. Zeros follow.
+// How many legs a path has, and their lengths. Zeros follow.
 #[derive(Clone, Copy)]
 pub struct Legs {
-    pub answer: u8,
     pub count: usize,
     pub lengths: [f32; MAX_POINTS],
 }
 
 // The value of a shape at `x`.
-pub fn evaluate_shape(c: ShapeCodes, x: f32) -> ShapeResult
-    ensures { shape_result_answer result ≡ evaluated_shape c x }
+#[tactic(auto, using(questions::proofs::Results::refusal_is, questions::proofs::Results::success_is), unfolding(crate::specs::Values::evaluated_shape))]
+pub fn evaluate_shape(c: ShapeCodes, x: f32) -> Result<f32, Question>
+    ensures { result_answer one_value result ≡ evaluated_shape c x }
 {
-    let others = questions::is_finite_f32(x);
-    let answer = questions::shape_answer(others, c);
-    if answer != 0 {
-        return ShapeResult::Refused(answer);
-    }
-    let s = curves::shape_of(c);
-    ShapeResult::At(s.value(x))
+    questions::shape_answer(questions::is_finite_f32(x), c)?;
+    Ok(curves::shape_of(c).value(x))
 }
 
 // X and Y of a path at the time `t`.
-pub fn evaluate_path(c: PathCodes, t: f32) -> PathResult
-    ensures { path_result_answer result ≡ evaluated_path c t }
+#[tactic(auto, using(questions::proofs::Results::refusal_is, questions::proofs::Results::success_is), unfolding(crate::specs::Values::evaluated_path))]
+pub fn evaluate_path(c: PathCodes, t: f32) -> Result<Xy, Question>
+    ensures { result_answer place_values result ≡ evaluated_path c t }
 {
-    let others = questions::is_finite_f32(t);
-    let answer = questions::path_answer(others, c);
-    if answer != 0 {
-        return PathResult::Refused(answer);
-    }
-    let p = curves::path_of(c);
-    let v = p.value(t);
-    PathResult::At { x: v.x, y: v.y }
+    questions::path_answer(questions::is_finite_f32(t), c)?;
+    Ok(curves::path_of(c).value(t))
 }
 
 // The lengths of the legs of a path.
-pub fn evaluate_legs(c: PathCodes) -> Legs
-    ensures { result ≡ evaluated_legs c }
+#[tactic(auto, using(questions::proofs::Numbers::number_not_zero), unfolding(crate::specs::Values::evaluated_legs))]
+pub fn evaluate_legs(c: PathCodes) -> Result<Legs, Question>
+    ensures { legs_answer result ≡ evaluated_legs c }
 {
-    let answer = questions::path_answer(true, c);
-    if answer != 0 {
-        return Legs {
-            answer,
-            count: 0,
-            lengths: [0.0f32; MAX_POINTS],
-        };
-    }
+    questions::path_answer(true, c)?;
     let p = curves::path_of(c);
-    let n = path_segments::segment_count(p.len, p.closed);
+    let count = path_segments::segment_count(p.len, p.closed);
     let lengths = p.legs();
-    Legs {
-        answer,
-        count: n,
-        lengths,
-    }
+    Ok(Legs { count, lengths })
 }

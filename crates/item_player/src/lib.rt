@@ -16,7 +16,7 @@ fn with_buses(p: Player, buses: [f32; POINT_BUSES]) -> Player
 {
     let mut q = p;
     for k in 0..POINT_BUSES {
-        q = player::set_bus(q, k as u64, buses[k]).player;
+        q = player::set_bus(q, k as u64, buses[k]).unwrap_or(q);
     }
     q
 }
@@ -25,8 +25,8 @@ fn with_buses(p: Player, buses: [f32; POINT_BUSES]) -> Player
 pub fn player_of(c: ItemCodes) -> Player
     ensures { (state_of result ≡ item_state c) × Valid result }
 {
-    let made = player::make(c.settings, c.seed).player;
-    let shaped = player::set_shape(made, c.shape).player;
-    let pathed = player::set_path(shaped, c.path).player;
+    let made = player::make(c.settings, c.seed).unwrap_or(player::default_player(c.seed));
+    let shaped = player::set_shape(made, c.shape).unwrap_or(made);
+    let pathed = player::set_path(shaped, c.path).unwrap_or(shaped);
     with_buses(pathed, c.buses)
 }

@@ -2,6 +2,7 @@
 use Rattle.std.specs.Prelude.{ℕ, Result, Ok, Err}
 use Rattle.codes.specs.declared.ItemCodes.{ItemCodes}
 use Rattle.fields.specs.Fields.{fault_number}
+use Rattle.questions.specs.Answers.{question_number}
 use Rattle.record.specs.Records.{Outcome, given, refused, left_over}
 use Rattle.item_reader.specs.declared.Refusal.{Refusal}
 use Rattle.item_reader.specs.declared.Refusal.TheVariants.{Fault, LeftOver, Question}
@@ -9,7 +10,7 @@ use Rattle.item_reader.specs.declared.Refusal.TheVariants.{Fault, LeftOver, Ques
 abbrev pub number : Refusal → ℕ
 number (Fault f) = fault_number f
 number LeftOver = left_over
-number (Question n) = n
+number (Question q) = question_number q
 
 -- what a record gives
 abbrev pub outcome : Result ItemCodes Refusal → Outcome ItemCodes

@@ -7,15 +7,16 @@ mod records;
 mod shapes;
 
 ghost use Rattle.std.specs.Prelude.{◌≡◌};
-ghost use Rattle.fields.specs.Fields.{parsed, parsed_by};
-ghost use Rattle.record.specs.Reading.{item};
+ghost use Rattle.fields.specs.Fields.{parsed, parsed_by, AnswersAs};
+ghost use Rattle.record.specs.Reading.{item_by, item};
 ghost use Rattle.record.specs.Records.{accepted_item, read_record};
 ghost use Rattle.item_reader.specs.Refusals.{number, outcome};
 ghost use Rattle.item_reader.specs.declared.Refusal.{Refusal};
 
-use codes::ItemCodes;
+use codes::{ItemCodes, PathCodes, ScaleCodes, SettingsCodes, ShapeCodes};
 use fields::{Fault, read_f32, read_f32s, read_f64, read_number};
 use paths::read_path;
+use questions::Question;
 use records::{read_scale, read_settings};
 use shapes::read_shape;
 
@@ -25,8 +26,8 @@ pub enum Refusal {
     Fault(Fault),
     // Bytes are left over behind it.
     LeftOver,
-    // The number of the first question that it fails.
-    Question(u8),
+    // The first question that it fails.
+    Question(Question),
 }
 
 impl From<Fault> for Refusal {
@@ -34,6 +35,14 @@ impl From<Fault> for Refusal {
 
     fn from(fault: Fault) -> Refusal {
         Refusal::Fault(fault)
+    }
+}
+
+impl From<Question> for Refusal {
+    ghost from_gives = { λ q r. r ≡ Refusal.Question q };
+
+    fn from(question: Question) -> Refusal {
+        Refusal::Question(question)
     }
 }
 
@@ -45,25 +54,46 @@ impl Refusal {
         match self {
             Refusal::Fault(fault) => fields::fault_number(fault),
             Refusal::LeftOver => 14,
-            Refusal::Question(n) => n,
+            Refusal::Question(question) => question.number(),
         }
     }
 }
 
-// The item from a place on, with no question put.
-#[tactic(auto, unfolding(record::specs::Reading::item, fields::specs::Parser::after))]
-pub fn read_item(s: &[u8], at: usize) -> Result<(ItemCodes, usize), Fault>
-    ensures { parsed result ≡ item s.now at }
+// An item from a place on, its parts by these readers.
+#[tactic(auto, unfolding(fields::specs::Parser::after))]
+pub fn read_item_by<
+    F: FnOnce(usize) -> Result<(SettingsCodes, usize), Fault>,
+    G: FnOnce(usize) -> Result<(ShapeCodes, usize), Fault>,
+    H: FnOnce(usize) -> Result<(PathCodes, usize), Fault>,
+    K: FnOnce(usize) -> Result<(ScaleCodes, usize), Fault>,
+>(
+    s: &[u8],
+    at: usize,
+    read_settings: F,
+    read_shape: G,
+    read_path: H,
+    read_scale: K,
+) -> Result<(ItemCodes, usize), Fault>
+    requires { F.IsAlwaysCallable read_settings
+        × G.IsAlwaysCallable read_shape
+        × H.IsAlwaysCallable read_path
+        × K.IsAlwaysCallable read_scale }
+    ensures { (settings : _) (shape : _) (path : _) (scale : _)
+        → AnswersAs (F.post read_settings) settings s.now
+        → AnswersAs (G.post read_shape) shape s.now
+        → AnswersAs (H.post read_path) path s.now
+        → AnswersAs (K.post read_scale) scale s.now
+        → parsed result ≡ item_by settings shape path scale s.now at }
 {
-    let (settings, at) = read_settings(s, at)?;
-    let (shape, at) = read_shape(s, at)?;
-    let (path, at) = read_path(s, at)?;
+    let (settings, at) = read_settings(at)?;
+    let (shape, at) = read_shape(at)?;
+    let (path, at) = read_path(at)?;
     let (buses, at) = read_f32s(s, at)?;
     let (seed, at) = read_number(s, at)?;
     let (tempo, at) = read_f64(s, at)?;
     let (beats_per_bar, at) = read_f64(s, at)?;
     let (swing, at) = read_f32(s, at)?;
-    let (scale, at) = read_scale(s, at)?;
+    let (scale, at) = read_scale(at)?;
     let item = ItemCodes {
         settings,
         shape,
@@ -78,16 +108,29 @@ pub fn read_item(s: &[u8], at: usize) -> Result<(ItemCodes, usize), Fault>
     Ok((item, at))
 }
 
+// The item from a place on, with no question put.
+#[tactic(auto, unfolding(record::specs::Reading::item))]
+pub fn read_item(s: &[u8], at: usize) -> Result<(ItemCodes, usize), Fault>
+    ensures { parsed result ≡ item s.now at }
+{
+    read_item_by(
+        s,
+        at,
+        |at| read_settings(s, at),
+        |at| read_shape(s, at),
+        |at| read_path(s, at),
+        |at| read_scale(s, at),
+    )
+}
+
 // The item from a place on, whatever stands behind it. The questions are put once it is read.
 #[tactic(auto, unfolding(record::specs::Records::accepted_item, fields::specs::Parser::after))]
 pub fn read_accepted(s: &[u8], at: usize) -> Result<(ItemCodes, usize), Refusal>
     ensures { parsed_by number result ≡ accepted_item s.now at }
 {
     let (item, at) = read_item(s, at)?;
-    match record::item_answer(item) {
-        0 => Ok((item, at)),
-        n => Err(Refusal::Question(n)),
-    }
+    record::item_answer(item)?;
+    Ok((item, at))
 }
 
 // Reads a record: any bytes. 12 and 13, then 14, then the questions.
@@ -99,8 +142,6 @@ pub fn read_record(s: &[u8]) -> Result<ItemCodes, Refusal>
     if end != s.len() {
         return Err(Refusal::LeftOver);
     }
-    match record::item_answer(item) {
-        0 => Ok(item),
-        n => Err(Refusal::Question(n)),
-    }
+    record::item_answer(item)?;
+    Ok(item)
 }

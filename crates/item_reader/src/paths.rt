@@ -30,7 +30,7 @@ fn read_path_point(s: &[u8], at: usize) -> Result<(PathPointCodes, usize), Fault
     Ok((point, at))
 }
 
-// `count` points, in the front of a blank array.
+// `count` points, in the front of a blank array of fixed size (no heap).
 fn read_path_points(
     s: &[u8],
     at: usize,

@@ -76,7 +76,7 @@ fn read_point(s: &[u8], at: usize, before: f32) -> Result<(PointCodes, usize), F
     Ok((point, at))
 }
 
-// `count` points, in the front of a blank array.
+// `count` points, in the front of a blank array of fixed size (no heap).
 fn read_points(
     s: &[u8],
     at: usize,

@@ -1,6 +1,6 @@
 -- The record of an item, from its numbers to what is written. Assumes nothing.
 --     shape_put, path_put, item_put          the numbers are those of the shape, the path and the item as they are kept
---     not_asked_for, is_written, no_room     what writing says
+--     not_asked_for, is_written              what writing says
 use Prim.Native.Nat.{ℕ, zero, suc, ◌+◌, ◌≤◌}
 use mathlib.Core.Path.{◌≡◌, refl, sym, ap, ◌∙◌}
 use mathlib.Core.Bool.{Bool, true, false, cond}
@@ -17,11 +17,14 @@ use Rattle.path.specs.declared.Path.{Path}
 use Rattle.codes.specs.declared.ShapeCodes.{ShapeCodes}
 use Rattle.codes.specs.declared.PathCodes.{PathCodes}
 use Rattle.curves.specs.Given.{given_shape, given_path}
-use Rattle.std.specs.Prelude.{Option, Some, None}
+use Rattle.std.specs.Prelude.{Option, Some, None, Result, Ok, Err, IsErrAnd, ok_or}
 use Rattle.replies.specs.Replies.{bytes_of, WritesAll}
 use Rattle.replies.proofs.Laws.{bytes_length}
 use Rattle.fields.specs.Bytes.{number_bytes, f32_bytes, f64_bytes, row_bytes}
 use Rattle.codes.specs.declared.ItemCodes.{ItemCodes}
+use Rattle.questions.specs.Answers.{question_number}
+use Rattle.questions.specs.declared.question.Question.{Question}
+use Rattle.questions.proofs.Numbers.{number_not_zero}
 use Rattle.record.specs.Kept.{codes_of_point, kept_shape, codes_of_path_point, kept_path, kept}
 use Rattle.record.specs.Writing.{point_bytes, loopback_bytes, shape_bytes, path_point_bytes, path_bytes, scale_bytes, item_bytes}
 use Rattle.record.specs.Questions.{item_answer}
@@ -30,6 +33,7 @@ use Rattle.record.specs.Records.{given, read_record, write_record, write_answer,
 use Rattle.record.proofs.KeptSettings.{settings_bytes_lem, loopback_bytes_lem}
 use Rattle.record.proofs.Answers.{write_answer_lem}
 use Rattle.record.proofs.RoundTrips.{gives_back}
+use Rattle.item_writer.specs.declared.Refusal.{Refusal}
 use Rattle.item_writer.specs.Numbers.{Adds, front_bytes}
 use Rattle.item_writer.specs.Written.{WritesRecord}
 
@@ -60,76 +64,63 @@ unfolding bytes_of item_bytes kept
 item_put i a = (rw (settings_bytes_lem i.settings) a.bytes, omega (arith, a.few))
 
 -- a refusal by the questions
-pub not_asked_for : (i : ItemCodes) → Typed i → (x : List ℕ) {n : ℕ} → n ≡ item_answer i → (n ≡ 0 → ⊥) → WritesRecord i x (record { answer = n; len = 0 }) x
+pub not_asked_for : (i : ItemCodes) → Typed i → (x : List ℕ) (q : Question) → question_number q ≡ item_answer i → (r : Result ℕ Refusal) → IsErrAnd r (λ e. e ≡ Refusal.Question q) → WritesRecord i x r x
 unfolding written_length written_to
-not_asked_for i typed x {n} asks some =
-    let no : eqb (item_answer i) 0 ≡ false = rw asks at (ne_eqb n 0 some) in
+not_asked_for i typed x q asks (Ok len) h = absurd h
+not_asked_for i typed x q asks (Err e) h =
+    let no : eqb (item_answer i) 0 ≡ false = rw asks at (ne_eqb (question_number q) 0 (number_not_zero q)) in
     let w = write_answer_lem i (length x) in
-    record { answer = rw (w, no) asks; len = rw (w, no, no); bytes = rw (w, no, no); short = omega arith; typed = typed; read_back = λ e. absurd (some e) }
+    rw h
+    (record { answer = rw (w, no) asks; len = rw (w, no, no); bytes = rw (w, no, no); short = omega arith; typed = typed; read_back = λ e. absurd (number_not_zero q e) })
 
-module _ (i : ItemCodes) (typed : Typed i) (x l : List ℕ) (is : bytes_of l ≡ item_bytes (kept i)) {n : ℕ} (asks : n ≡ item_answer i) (accepted : n ≡ 0) (few : length l ≤ 1264) where
+module _ (i : ItemCodes) (typed : Typed i) (x l : List ℕ) (is : bytes_of l ≡ item_bytes (kept i)) (accepted : 0 ≡ item_answer i) (few : length l ≤ 1264) where
   abbrev b : List ℕ
   b = item_bytes (kept i)
-
-  zero_is : item_answer i ≡ 0
-  zero_is = sym asks ∙ accepted
 
   -- the record that stands in the front of the buffer is read
   is_read : read_record (take (length b) (over x 0 b)) ≡ given (kept i)
   unfolding write_record
-  is_read = rw (over_front x b, take_at b (drop (length b) x) (length b) refl) (gives_back i typed b (rw zero_is))
+  is_read = rw (over_front x b, take_at b (drop (length b) x) (length b) refl) (gives_back i typed b (rw (← accepted)))
 
   -- what is promised, by whether there is room
   promised : (t : Bool) → leb (length b) (length x) ≡ t
       → (write_answer i (length x) ≡ cond t 0 21) × (written_length i (length x) ≡ cond t (length b) 0) × (written_to i x ≡ cond t (over x 0 b) x)
   unfolding written_length written_to
-  promised true e = let w = write_answer_lem i (length x) in (rw (w, zero_is, e), rw (w, zero_is, e), rw (w, zero_is, e))
-  promised false e = let w = write_answer_lem i (length x) in (rw (w, zero_is, e), rw (w, zero_is, e), rw (w, zero_is, e))
+  promised true e = let w = write_answer_lem i (length x) in (rw (w, ← accepted, e), rw (w, ← accepted, e), rw (w, ← accepted, e))
+  promised false e = let w = write_answer_lem i (length x) in (rw (w, ← accepted, e), rw (w, ← accepted, e), rw (w, ← accepted, e))
 
   -- and what was done
-  done : {r : Option ℕ} {y : List ℕ} → WritesAll x 0 l r y → (t : Bool) → leb (length b) (length x) ≡ t
-      → (r ≡ cond t (Some (length b)) None) × (y ≡ cond t (over x 0 b) x)
+  done : {o : Option ℕ} {y : List ℕ} → WritesAll x 0 l o y → (t : Bool) → leb (length b) (length x) ≡ t
+      → (o ≡ cond t (Some (length b)) None) × (y ≡ cond t (over x 0 b) x)
   done g t e =
       let plain : 0 + length b ≡ length b = omega arith in
       (rw (is, plain, e) at g.answer, rw (is, plain, e) at g.bytes)
 
-  pub is_written : {len : ℕ} {r : Option ℕ} {y : List ℕ} → r ≡ Some len → WritesAll x 0 l r y → WritesRecord i x (record { answer = 0; len = len }) y
-  is_written {len} {r} {y} next g = by_room (leb (length b) (length x)) refl
+  pub is_written : {o : Option ℕ} {y : List ℕ} → WritesAll x 0 l o y → WritesRecord i x (ok_or o Refusal.NoRoom) y
+  is_written {o} {y} g = by_room (leb (length b) (length x)) refl
     where
-      by_room : (t : Bool) → leb (length b) (length x) ≡ t → WritesRecord i x (record { answer = 0; len = len }) y
+      by_room : (t : Bool) → leb (length b) (length x) ≡ t → WritesRecord i x (ok_or o Refusal.NoRoom) y
       by_room true e =
           let (answer, size, bytes) = promised true e in
           let (did, left) = done g true e in
-          let same : Some len ≡ Some (length b) = sym next ∙ did in
-          let sized : len ≡ length b = cc same in
-          record {
+          rw did
+          (record {
             answer = sym answer;
-            len = sized ∙ sym size;
+            len = sym size;
             bytes = left ∙ sym bytes;
             short = omega (arith, ap length is, bytes_length l);
             typed = typed;
-            read_back = λ _. rw (sized, left) is_read;
-          }
-      by_room false e =
-          let same : Some len ≡ None = sym next ∙ (done g false e).0 in
-          let z : ◌≡◌ {A = ℕ} 0 1 = cc same in
-          absurd (omega arith)
-
-  pub no_room : {r : Option ℕ} {y : List ℕ} → r ≡ None → WritesAll x 0 l r y → WritesRecord i x (record { answer = 21; len = 0 }) y
-  no_room {r} {y} none g = by_room (leb (length b) (length x)) refl
-    where
-      by_room : (t : Bool) → leb (length b) (length x) ≡ t → WritesRecord i x (record { answer = 21; len = 0 }) y
-      by_room true e =
-          let same : None ≡ Some (length b) = sym none ∙ (done g true e).0 in
-          let z : ◌≡◌ {A = ℕ} 0 1 = cc same in
-          absurd (omega arith)
+            read_back = λ _. rw left is_read;
+          })
       by_room false e =
           let (answer, size, bytes) = promised false e in
-          record {
+          let (did, left) = done g false e in
+          rw did
+          (record {
             answer = sym answer;
             len = sym size;
-            bytes = (done g false e).1 ∙ sym bytes;
+            bytes = left ∙ sym bytes;
             short = omega arith;
             typed = typed;
             read_back = λ e. let z : ⊥ = omega arith in absurd z;
-          }
+          })

@@ -12,19 +12,43 @@ ghost use Rattle.replies.specs.Replies.{bytes_of};
 ghost use Rattle.record.specs.Kept.{kept};
 ghost use Rattle.record.specs.Writing.{item_bytes};
 ghost use Rattle.item_writer.specs.Numbers.{Adds, front_bytes};
-ghost use Rattle.item_writer.specs.Written.{WritesRecord};
+ghost use Rattle.item_writer.specs.Written.{number, WritesRecord};
+ghost use Rattle.item_writer.specs.declared.Refusal.{Refusal};
 
 use codes::ItemCodes;
 use numbers::{Put, put_row};
+use questions::Question;
 
 // The most numbers that an item has: 21 of its settings, 10 a point, 9 a path point, 16 buses, and 11 more.
 const MOST: usize = 1264;
 
-// The answer, and where it is 0 the length of the record: two numbers and no `Result`, since C gets these two in one (`packed` of crate items).
-#[derive(Clone, Copy)]
-pub struct Written {
-    pub answer: u8,
-    pub len: usize,
+// Why no record is written.
+#[derive(Clone, Copy, PartialEq, Eq)]
+pub enum Refusal {
+    // The first question that the item fails.
+    Question(Question),
+    // The buffer is too short for the record.
+    NoRoom,
+}
+
+impl From<Question> for Refusal {
+    ghost from_gives = { λ q r. r ≡ Refusal.Question q };
+
+    fn from(question: Question) -> Refusal {
+        Refusal::Question(question)
+    }
+}
+
+impl Refusal {
+    // The number by which a record is refused.
+    pub fn number(self) -> u8
+        ensures { result ≡ number self }
+    {
+        match self {
+            Refusal::Question(question) => question.number(),
+            Refusal::NoRoom => 21,
+        }
+    }
 }
 
 // The item up to its buses, its points as they are kept.
@@ -51,18 +75,12 @@ fn put_item(out: &mut [u64], c: ItemCodes) -> usize
     c.scale.put(out, swing)
 }
 
-// Writes an item's record into the front of `out`: any codes, any buffer.
-pub fn write_record(c: ItemCodes, out: &mut [u8]) -> Written
+// Writes an item's record into the front of `out`, and gives its length: any codes, any buffer.
+pub fn write_record(c: ItemCodes, out: &mut [u8]) -> Result<usize, Refusal>
     ensures { WritesRecord c out.old result out.new }
 {
-    let answer = record::item_answer(c);
-    if answer != 0 {
-        return Written { answer, len: 0 };
-    }
+    record::item_answer(c)?;
     let mut numbers = [0u64; MOST];
     let n = put_item(&mut numbers, c);
-    match replies::write_numbers(out, 0, &numbers[..n]) {
-        Some(len) => Written { answer: 0, len },
-        None => Written { answer: 21, len: 0 },
-    }
+    replies::write_numbers(out, 0, &numbers[..n]).ok_or(Refusal::NoRoom)
 }

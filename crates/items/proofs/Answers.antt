@@ -6,11 +6,12 @@ use mathlib.Core.List.{List}
 use native.Mathlib.Omega.{arith}
 use Rattle.codes.specs.declared.ItemCodes.{ItemCodes}
 use Rattle.record.specs.Records.{Outcome, given, refused}
-use Rattle.item_writer.specs.declared.Written.{Written}
-use Rattle.item_writer.specs.Written.{WritesRecord}
+use Rattle.std.specs.Prelude.{Result}
+use Rattle.item_writer.specs.declared.Refusal.{Refusal}
+use Rattle.item_writer.specs.Written.{number_of, length_of, WritesRecord}
 use Rattle.items.specs.Said.{SaysItem}
 
-pub said_written : {a : Outcome ItemCodes} {i : ItemCodes} {x : List ℕ} {w : Written} {y : List ℕ} {r : ℕ} → given i ≡ a → WritesRecord i x w y → r ≡ w.answer + 256 * w.len → SaysItem a x r y
+pub said_written : {a : Outcome ItemCodes} {i : ItemCodes} {x : List ℕ} {w : Result ℕ Refusal} {y : List ℕ} {r : ℕ} → given i ≡ a → WritesRecord i x w y → r ≡ number_of w + 256 * length_of w → SaysItem a x r y
 said_written {i = i} {x} {w} {y} is_given p e =
     rw (← is_given)
     (record {

@@ -1,21 +1,38 @@
 // Reading and writing items under C names, for harness/ to link (docs/RUN.md, Items).
 #![tactic(auto)]
 
-mod reading;
-
 ghost use Rattle.std.specs.Prelude.{◌≡◌, ◌+◌, ◌*◌, ◌≤◌};
+ghost use Rattle.fields.specs.Fields.{parsed};
 ghost use Rattle.record.specs.Records.{read_record};
-ghost use Rattle.items.specs.Said.{handed, handed_in, SaysItem};
+ghost use Rattle.item_writer.specs.Written.{number_of, length_of};
+ghost use Rattle.items.specs.Said.{item, handed, handed_in, SaysItem};
 
 use codes::ItemCodes;
-use item_writer::Written;
+use fields::Fault;
+use item_writer::Refusal;
+use runs::{read_path, read_scale, read_settings, read_shape};
 
-// An item in RUN.md's numbers, with nothing behind it.
+// An item in RUN.md's numbers, as the writer of records takes it: any codes and any points.
+#[tactic(auto, unfolding(crate::specs::Said::item))]
+fn read_item(s: &[u8], at: usize) -> Result<(ItemCodes, usize), Fault>
+    ensures { parsed result ≡ item s.now at }
+{
+    item_reader::read_item_by(
+        s,
+        at,
+        |at| read_settings(s, at),
+        |at| read_shape(s, at),
+        |at| read_path(s, at),
+        |at| read_scale(s, at),
+    )
+}
+
+// The same, with nothing behind it.
 #[tactic(auto, unfolding(crate::specs::Said::handed_in, crate::specs::Said::or_malformed, record::specs::Records::ended, fields::specs::Parser::after))]
 fn handed_in(s: &[u8]) -> Option<ItemCodes>
     ensures { handed result ≡ handed_in s.now }
 {
-    let Ok((item, end)) = reading::read_item(s, 0) else {
+    let Ok((item, end)) = read_item(s, 0) else {
         return None;
     };
     if end != s.len() {
@@ -24,12 +41,15 @@ fn handed_in(s: &[u8]) -> Option<ItemCodes>
     Some(item)
 }
 
-// The number, and 256 times the length of what was written.
-fn packed(w: Written) -> u64
-    requires { w.len ≤ 12640 }
-    ensures { result ≡ w.answer + 256 * w.len }
+// The number, and 256 times the length of what was written: C gets the two in one.
+fn packed(written: Result<usize, Refusal>) -> u64
+    requires { length_of written ≤ 12640 }
+    ensures { result ≡ number_of written + 256 * length_of written }
 {
-    u64::from(w.answer) + 256 * (w.len as u64)
+    match written {
+        Ok(len) => 256 * len as u64,
+        Err(refusal) => u64::from(refusal.number()),
+    }
 }
 
 // Reads a record and writes the numbers of its item to `out`.

@@ -4,3 +4,4 @@ pub mod Shift
 pub mod Inserted
 pub mod Over
 pub mod Everywhere
+pub mod Write

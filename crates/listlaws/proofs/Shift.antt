@@ -2,10 +2,9 @@
 use mathlib.Core.Path.{◌≡◌, refl, sym, ap, ◌∙◌}
 use mathlib.Core.List.{List, ◌∷◌, ◌++◌, append_assoc}
 use Prim.Native.Nat.{ℕ, zero, suc, ◌-◌, ◌≤◌, ◌<◌}
-use native.Mathlib.Nat.{sub_self}
 use native.Mathlib.Omega.{arith}
 use native.Mathlib.Numerals.{add-one, sub-one}
-use lib.ListN.{length, get_or, set, take, drop, replicate, take-append-drop, length-drop, get_or-append}
+use lib.ListN.{length, get_or, set, take, drop, replicate, length-drop, get_or-append}
 use lib.Seq.{length-take-le, drop-cons, set-append_left, take-set-lt, take-suc-set, get_or-take, append_snoc, take-append-le, drop-append-le, drop-append-add, take_at}
 use Rattle.listlaws.specs.Tables.{opened}
 
@@ -16,9 +15,6 @@ module _ {A : Type 0} where
   -- what stands from place j up to n has moved up, and place j is still as it was
   abbrev pub shifted : List A → ℕ → ℕ → List A
   shifted a n j = take (suc j) a ++ (take (n - j) (drop j a) ++ drop (suc n) a)
-
-  pub shifted_none : (a : List A) (n : ℕ) → a ≡ shifted a n n
-  shifted_none a n = rw sub_self (sym (take-append-drop (suc n) a))
 
   pub set_shifted : (a : List A) (n j : ℕ) (v : A) → j < length a → set (shifted a n j) j v ≡ opened a n j v
   set_shifted a n j v h =

@@ -1,2 +1,3 @@
 pub mod Tables
 pub mod Over
+pub mod Write

@@ -14,8 +14,5 @@ module _ {A : Type 0} (a : A) where
   take_replicate (suc n) (suc m) h = ap (λ l. a ∷ l) (take_replicate n m (omega arith))
 
 module _ (m : ℕ) {l : List Float} (e : l ≡ sevens m) where
-  pub sevens_long : length l ≡ m
-  sevens_long = rw e (length-replicate m _)
-
   pub sevens_first : (n : ℕ) → n ≤ m → take n l ≡ sevens n
   sevens_first n h = rw e (take_replicate _ n m h)

@@ -21,11 +21,6 @@ fitting_room len place (l ∷ rest) h = by_fit (fits len place (length (bytes_of
     by_fit true e more = rw length-append (omega (arith, more (leb-true (place + length (bytes_of l)) len e)))
     by_fit false e more = omega arith
 
-pub fitting_if : (len place : ℕ) (t : Bool) (all : List (List ℕ)) → fitting len place (cond t all []) ≡ cond t (fitting len place all) []
-unfolding fitting
-fitting_if len place true all = refl
-fitting_if len place false all = refl
-
 -- past the end there is no call
 pub given_past : {M S A : Type 0} (C : Calling M S A) (most : ℕ) (s : S) (run : List ℕ) (at : ℕ) → length run ≤ at → given C most s run at ≡ []
 unfolding given

@@ -1,19 +1,18 @@
 -- From what was read to what is given. Assumes nothing.
 use Prim.Native.Nat.{ℕ}
 use mathlib.Core.Path.{◌≡◌, sym, ap, ◌∙◌}
-use mathlib.Core.Bool.{true, false}
+use mathlib.Core.Bool.{false}
 use mathlib.Core.List.{List, [], ◌∷◌}
 use borrow.Author.Tests.{ne_eqb}
 use lib.Dec.{eqb}
 use lib.ListN.{length}
 use Rattle.fields.specs.Parser.{Parsed, read, fault}
-use Rattle.outputs.specs.Output.{Calling, given_by, given_from, ill}
-use Rattle.outputs.specs.Turns.{given_of, replied}
+use Rattle.outputs.specs.Output.{Calling, given, given_by, given_from, ill}
 
 -- a call
-pub call_ill : {M S A : Type 0} (C : Calling M S A) (run : List ℕ) (s : S) {v : Parsed A} {n : ℕ} → fault n ≡ v → (most : ℕ) → given_of C s run v most ≡ ill
+pub call_ill : {M S A : Type 0} (C : Calling M S A) (s : S) (rest : S → ℕ → List (List ℕ)) {v : Parsed A} {n : ℕ} → fault n ≡ v → given_by C s rest v ≡ ill
 unfolding given_by
-call_ill C run s r most = rw (← r)
+call_ill C s rest r = rw (← r)
 
 -- making
 module _ {M S A : Type 0} (C : Calling M S A) (run : List ℕ) where
@@ -22,7 +21,7 @@ module _ {M S A : Type 0} (C : Calling M S A) (run : List ℕ) where
   make_ill r = ap (given_from C run) (sym r)
 
   module _ {m : M} {at : ℕ} (r : read m at ≡ C.make run 0) where
-    pub make_taken : C.make_answer m ≡ 0 → given_from C run (C.make run 0) ≡ replied C run (0 ∷ []) at true (C.made m) (length run)
+    pub make_taken : C.make_answer m ≡ 0 → given_from C run (C.make run 0) ≡ (0 ∷ []) ∷ given C (length run) (C.made m) run at
     unfolding given_from
     make_taken z = ap (given_from C run) (sym r) ∙ rw z
 

@@ -1,6 +1,5 @@
 pub mod Buffers
 pub mod Fitting
-pub mod Turning
 pub mod Tags
 pub mod Given
 pub mod Enough

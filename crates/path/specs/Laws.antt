@@ -1,5 +1,5 @@
--- What holds of every path: its points, its legs, its times and its segments. Proved in proofs/PathRanges.antt, proofs/PathLegs.antt and proofs/PathTimes.antt. Assumes nothing.
-use Rattle.std.specs.Prelude.{ℕ, suc, ◌+◌, ◌%◌, ◌<◌, ◌≡◌, Bool, not, List, T, get_or, Float}
+-- What holds of every path: its points, its legs, its times and its segments. Proved in proofs/PathRanges.antt, proofs/PathLegs.antt, proofs/First.antt and proofs/PathTimes.antt. Assumes nothing.
+use Rattle.std.specs.Prelude.{ℕ, suc, ◌+◌, ◌%◌, ◌<◌, ◌≤◌, ◌≡◌, min, Bool, not, List, T, length, take, get_or, Float}
 use Rattle.std.specs.Float.{nan}
 use Rattle.std.specs.Float.Ieee.{is_nan}
 use Rattle.floatlaws.specs.Numbers.{Between, f32_0, f32_1, f32_minus1}
@@ -49,6 +49,18 @@ PathLegsBetween =
     (p : Path) → ((k : ℕ) → k < p.len → PointOnPaper (get_or p.points k no_path_point)) → (j : ℕ) → j < segments_of p.len p.closed
     → let a = get_or p.points j no_path_point in
     let b = get_or p.points ((j + 1) % p.len) no_path_point in LegBetween a.x a.y b.x b.y (get_or (path_legs p) j nan)
+
+-- the first of more points, as many as are kept of n, are as good as all of them
+abbrev pub PathOfFirstPoints : Type 0
+PathOfFirstPoints =
+    (points : List PathPoint) (n : ℕ) (closed : Bool) → min n 64 ≤ length points
+    → path_of (take (min n 64) points) (length (take (min n 64) points)) closed ≡ path_of points n closed
+
+-- and so are they for the legs
+abbrev pub LegsOfFirst : Type 0
+LegsOfFirst =
+    (points : List PathPoint) (n : ℕ) (closed : Bool) → n ≤ length points
+    → let first = take n points in legs_of first (length first) (segments_of (length first) closed) ≡ legs_of points n (segments_of n closed)
 
 -- ---- times and segments, of every path that a call makes
 

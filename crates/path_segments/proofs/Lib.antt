@@ -3,3 +3,4 @@ pub mod KeptPath
 pub mod Ascent
 pub mod RustPath
 pub mod AcceptedPath
+pub mod First

@@ -1,5 +1,5 @@
--- What holds of a path's times, and of a search among times. Proved in proofs/Ascent.antt, proofs/KeptPath.antt and proofs/RustPath.antt; that every path's legs are 0 to 2 long is `LegsWithin` of crate path. Assumes nothing.
-use Rattle.std.specs.Prelude.{ℕ, suc, ◌≤◌, ◌<◌, ◌≡◌, Bool, not, List, T, get_or, Float}
+-- What holds of a path's times, and of a search among times. Proved in proofs/Ascent.antt, proofs/First.antt, proofs/KeptPath.antt and proofs/RustPath.antt; that every path's legs are 0 to 2 long is `LegsWithin` of crate path. Assumes nothing.
+use Rattle.std.specs.Prelude.{ℕ, suc, ◌≤◌, ◌<◌, ◌≡◌, Bool, not, List, T, length, take, get_or, Float}
 use Rattle.std.specs.Float.{nan}
 use Rattle.std.specs.Float.Ieee.{is_nan}
 use Rattle.std.specs.Float.Ieee.Scale.{finite}
@@ -18,7 +18,15 @@ pub record LegTimes (legs : List Float) (n : ℕ) : Type 0 where
 abbrev pub LegTimesRule : Type 0
 LegTimesRule = (legs : List Float) (n : ℕ) → LegsIn legs n → n ≤ 64 → LegTimes legs n
 
+-- the first n of more legs are as good as all of them
+abbrev pub TimesOfFirst : Type 0
+TimesOfFirst = (legs : List Float) (n : ℕ) → n ≤ length legs → times_of (take n legs) (length (take n legs)) ≡ times_of legs n
+
 -- ---- a search
+
+-- the first n of more points are as good as all of them
+abbrev pub PathOfFirst : Type 0
+PathOfFirst = (xs ys bends times : List Float) (n : ℕ) (closed : Bool) (t : Float) → n ≤ length xs → path_segment (take n xs) ys bends times (length (take n xs)) closed t ≡ path_segment xs ys bends times n closed t
 
 module _ (xs ys bends times : List Float) (len : ℕ) (closed : Bool) where
   -- "It holds lo ≤ x < hi": the segment found for the time t holds t

@@ -1,3 +1,4 @@
 pub mod Times
 pub mod Segments
+pub mod View
 pub mod Laws

@@ -3,8 +3,9 @@
 
 mod timing;
 
-ghost use Rattle.std.specs.Prelude.{◌≡◌, ◌≤◌, ◌<◌, ◌-◌, ◌%◌};
-ghost use Rattle.path_segments.specs.Segments.{empty_path, path_hold, path_between, path_contains, path_u, path_point, path_eval, last_of, leg_segment, path_segment_at, path_segment};
+ghost use Rattle.std.specs.Prelude.{◌≡◌, ◌≤◌, ◌<◌, ◌-◌, ◌%◌, length};
+ghost use Rattle.path_segments.specs.Segments.{empty_path, path_hold, path_between, path_contains, path_u, path_point, path_eval, last_of};
+ghost use Rattle.path_segments.specs.View.{EachHasAll, leg_after, segment_after, segment_of};
 
 use points::MAX_POINTS;
 pub use timing::{segment_count, times};
@@ -113,71 +114,82 @@ pub fn path_point(u: f32, s: PathSegment) -> Xy
     }
 }
 
-// The segment that holds time `t`, of the path of `len` points at `xs`, `ys` with these bends and times.
-pub fn path_segment(
-    xs: &[f32; MAX_POINTS],
-    ys: &[f32; MAX_POINTS],
-    bends: &[f32; MAX_POINTS],
-    times: &[f32; MAX_TIMES],
-    len: usize,
-    closed: bool,
-    t: f32,
-) -> PathSegment
-    requires { len ≤ 64 }
-    ensures { result ≡ path_segment xs.now ys.now bends.now times.now len closed t }
-{
-    if len == 0 {
-        return PathSegment::hold(extrema::neg_infinity(), extrema::infinity(), 0.0, 0.0);
-    }
-    let n = segment_count(len, closed);
-    if n == 0 {
-        return PathSegment::hold(extrema::neg_infinity(), extrema::infinity(), xs[0], ys[0]);
-    }
-    let i = points::partition_point(times, n + 1, t);
-    path_segment_at(xs, ys, bends, times, len, closed, n, i)
+// The points of a path, lent, so that a search copies no path: as many as `xs` has, each with the bend of the segment after it; and
+// when each segment starts and the last one ends.
+#[derive(Clone, Copy)]
+pub struct PathView<'a> {
+    pub xs: &'a [f32],
+    pub ys: &'a [f32],
+    pub bends: &'a [f32],
+    pub times: &'a [f32],
+    pub closed: bool,
 }
 
-// The segment after the first `i` of the `n + 1` times.
-fn path_segment_at(
-    xs: &[f32; MAX_POINTS],
-    ys: &[f32; MAX_POINTS],
-    bends: &[f32; MAX_POINTS],
-    times: &[f32; MAX_TIMES],
-    len: usize,
-    closed: bool,
-    n: usize,
-    i: usize,
-) -> PathSegment
-    requires { (1 ≤ len) × (n ≤ len) × (len ≤ 64) }
-    ensures { result ≡ path_segment_at xs.now ys.now bends.now times.now len closed n i }
-{
-    if i == 0 {
-        return PathSegment::hold(extrema::neg_infinity(), times[0], xs[0], ys[0]);
+impl PathView<'_> {
+    // The segment that holds time `t`.
+    pub fn segment(self, t: f32) -> PathSegment
+        requires { EachHasAll self }
+        ensures { result ≡ segment_of self.entry t }
+    {
+        if self.xs.is_empty() {
+            return PathSegment::hold(extrema::neg_infinity(), extrema::infinity(), 0.0, 0.0);
+        }
+        let n = segment_count(self.xs.len(), self.closed);
+        if n == 0 {
+            return PathSegment::hold(
+                extrema::neg_infinity(),
+                extrema::infinity(),
+                self.xs[0],
+                self.ys[0],
+            );
+        }
+        self.segment_at(n, points::partition_point(&self.times[..n + 1], t))
     }
-    if i > n {
-        let last = last_point(len, closed);
-        return PathSegment::hold(times[n], extrema::infinity(), xs[last], ys[last]);
-    }
-    leg_segment(xs, ys, bends, times, len, i)
-}
 
-// The segment from point `i - 1` to the one after it, which after the last point is the first.
-fn leg_segment(
-    xs: &[f32; MAX_POINTS],
-    ys: &[f32; MAX_POINTS],
-    bends: &[f32; MAX_POINTS],
-    times: &[f32; MAX_TIMES],
-    len: usize,
-    i: usize,
-) -> PathSegment
-    requires { (1 ≤ i) × (i ≤ len) × (len ≤ 64) }
-    ensures { result ≡ leg_segment xs.now ys.now bends.now times.now len i }
-{
-    let a = i - 1;
-    let b = next_point(i, len);
-    let x = xs[a];
-    let y = ys[a];
-    PathSegment::between(times[a], times[i], x, y, xs[b] - x, ys[b] - y, bends[a])
+    // The segment after the first `i` of the `n + 1` times.
+    fn segment_at(self, n: usize, i: usize) -> PathSegment
+        requires { EachHasAll self × (0 < length self.xs.now) × (n ≤ length self.xs.now) }
+        ensures { result ≡ segment_after self.entry n i }
+    {
+        if i == 0 {
+            return PathSegment::hold(
+                extrema::neg_infinity(),
+                self.times[0],
+                self.xs[0],
+                self.ys[0],
+            );
+        }
+        if i > n {
+            let last = last_point(self.xs.len(), self.closed);
+            return PathSegment::hold(
+                self.times[n],
+                extrema::infinity(),
+                self.xs[last],
+                self.ys[last],
+            );
+        }
+        self.leg_segment(i)
+    }
+
+    // The segment from point `i - 1` to the one after it, which after the last point is the first.
+    fn leg_segment(self, i: usize) -> PathSegment
+        requires { EachHasAll self × (1 ≤ i) × (i ≤ length self.xs.now) }
+        ensures { result ≡ leg_after self.entry i }
+    {
+        let a = i - 1;
+        let b = next_point(i, self.xs.len());
+        let x = self.xs[a];
+        let y = self.ys[a];
+        PathSegment::between(
+            self.times[a],
+            self.times[i],
+            x,
+            y,
+            self.xs[b] - x,
+            self.ys[b] - y,
+            self.bends[a],
+        )
+    }
 }
 
 // The place after `i - 1` among `len` points in a round.

@@ -1,9 +1,8 @@
 // When in the cycle each point of a path is reached.
-ghost use Rattle.std.specs.Prelude.{◌≡◌, ◌≤◌};
+ghost use Rattle.std.specs.Prelude.{◌≡◌, ◌≤◌, length};
 ghost use Rattle.path_segments.specs.Times.{segments_of, sum_to, share_of, times_of};
 
 use crate::MAX_TIMES;
-use points::MAX_POINTS;
 
 // How many segments a path of `len` points has.
 pub fn segment_count(len: usize, closed: bool) -> usize
@@ -18,13 +17,12 @@ pub fn segment_count(len: usize, closed: bool) -> usize
     len - 1
 }
 
-// The first `n` legs together.
-fn total(legs: &[f32; MAX_POINTS], n: usize) -> f32
-    requires { n ≤ 64 }
-    ensures { result ≡ sum_to legs.now n }
+// The legs together.
+fn total(legs: &[f32]) -> f32
+    ensures { result ≡ sum_to legs.now (length legs.now) }
 {
     let mut sum = 0.0;
-    for leg in &legs[..n] {
+    for leg in legs {
         sum += *leg;
     }
     sum
@@ -44,15 +42,16 @@ fn share(sum: f32, total: f32, j: usize, n: usize) -> f32
     0.0
 }
 
-// The times of a path of `n` segments with these lengths.
-pub fn times(legs: &[f32; MAX_POINTS], n: usize) -> [f32; MAX_TIMES]
-    requires { n ≤ 64 }
-    ensures { result ≡ times_of legs.now n }
+// The times of a path whose segments have these lengths.
+pub fn times(legs: &[f32]) -> [f32; MAX_TIMES]
+    requires { length legs.now ≤ 64 }
+    ensures { result ≡ times_of legs.now (length legs.now) }
 {
-    let whole = total(legs, n);
+    let n = legs.len();
+    let whole = total(legs);
     let mut out = [0.0; MAX_TIMES];
     let mut sum = 0.0;
-    for (j, leg) in legs[..n].iter().enumerate() {
+    for (j, leg) in legs.iter().enumerate() {
         out[j] = share(sum, whole, j, n);
         sum += *leg;
     }

@@ -1,5 +1,5 @@
 -- What playing a block asks of what it calls, and what it gives of their equations. Assumes nothing.
-use Rattle.std.specs.Prelude.{None, Option, Some}
+use Rattle.std.specs.Prelude.{None, Option, Some, Ok, Err}
 use Prim.Native.Nat.{ℕ, ◌+◌, ◌^◌, ◌≤◌, ◌<◌}
 use mathlib.Core.Path.{◌≡◌, refl, sym, ap, ◌∙◌}
 use mathlib.Core.Bool.{Bool, true, false, false≢true}
@@ -22,62 +22,70 @@ use Rattle.slot.specs.Moved.{LoopbackIn, points_of, loop_of}
 use Rattle.slot.specs.Slot.{Lfo, slot_curve}
 use Rattle.slot.proofs.Blocks as blocks
 use Rattle.codes.specs.declared.RestartCodes.{RestartCodes}
+use Rattle.questions.specs.declared.question.Question.{Question}
+use Rattle.questions.specs.Answers.{question_number}
 use Rattle.questions.specs.Questions.{first_no, block_questions}
-use Rattle.questions.proofs.Facts.{BlockAccepted, block_accepted, transport_is_in}
+use Rattle.questions.proofs.Facts.{BlockAccepted, block_accepted, transport_is_in, transport_given}
+use Rattle.questions.proofs.Numbers.{number_not_zero}
 use Rattle.calls.specs.Blocks.{pending_of, played_state, values, finished}
 use Rattle.calls.specs.Calls.{Call, block, questions, answer, accepts, accepted, played, buffer}
+use Rattle.calls.proofs.Answers.{refused_player}
+use Rattle.calls.proofs.Blocks.{refused_buffer}
 use Rattle.player.specs.declared.Deck.{Deck}
 use Rattle.player.specs.declared.Player.{Player}
 use Rattle.player.specs.Player.{state_of, with_deck, Valid}
-use Rattle.player.specs.Promises.{refused_with, finished_by, Plays}
-use Rattle.player.proofs.Answers.{accepts_it, refuses_it, step_accepted, step_refused}
+use Rattle.player.specs.Promises.{finished_by, Plays}
+use Rattle.player.proofs.Answers.{accepts_it, refuses_it, step_accepted}
 
 -- what `loop_point` asks
 pub loopback_small : (p : Player) → Valid p → LoopbackIn p.page.shape.loopback 64
 loopback_small p v = blocks.loopback_more p.page.shape.loopback _ _ v.lfo_in.shape_in.short v.lfo_in.shape_in.loopback_is_in
 
-module _ (p : Player) (v : Valid p) (c : TransportCodes) (frames : ℕ) (restart : RestartCodes) (x y : List Float) (a : ℕ)
-    (asked : a ≡ first_no (block_questions p.deck.played c frames restart (length x) (length y))) where
+module _ (p : Player) (v : Valid p) (c : TransportCodes) (frames : ℕ) (restart : RestartCodes) (x y : List Float) where
   abbrev call : Call
   call = block c frames restart x y
 
-  put : a ≡ answer (state_of p) call
+  abbrev number : ℕ
+  number = first_no (block_questions p.deck.played c frames restart (length x) (length y))
+
+  number_is : number ≡ answer (state_of p) call
   unfolding answer questions
-  put = asked
+  number_is = refl
 
   -- the deck stays, and so do the buffers
-  pub block_refused : (a ≡ 0 → ⊥) → Plays p c frames restart x y (refused_with a p.deck) x y
-  block_refused e =
-      let no = refuses_it (state_of p) call a put e in
-      record {
-        answer_is = put;
-        state_is = sym (step_refused (state_of p) call a put e);
-        kept = λ h. refl;
-        finished_is = unfold finished_by in rw no;
-        x_is = unfold buffer in rw no;
-        y_is = unfold buffer in rw no;
-        valid = v;
-      }
+  module _ (q : Question) (asked : question_number q ≡ number) where
+    no : accepts (state_of p) call ≡ false
+    no = refuses_it (state_of p) call _ (asked ∙ number_is) (number_not_zero q)
 
-  module _ (e : a ≡ 0) where
-    yes : accepts (state_of p) call ≡ true
-    yes = accepts_it (state_of p) call a put e
+    says_none : false ≡ finished_by (state_of p) c frames restart x y
+    unfolding finished_by
+    says_none = rw no
 
-    facts : BlockAccepted p.deck.played c frames restart (length x) (length y)
-    facts = block_accepted p.deck.played c frames restart (length x) (length y) (sym asked ∙ e)
-
-    -- an answer of 0 goes with no unknown code, so that there is no such block
-    pub block_unknown : transport_at c ≡ None → Plays p c frames restart x y (refused_with a p.deck) x y
-    block_unknown unknown =
+    pub block_refused : Plays p c frames restart x y (Err q) x y
+    block_refused =
         record {
-          answer_is = put;
-          state_is = rw (step_accepted (state_of p) call a put e) (unfold accepted in rw unknown);
+          answer_is = asked ∙ number_is;
+          state_is = sym (refused_player (state_of p) call no);
           kept = λ h. refl;
-          finished_is = unfold finished_by in rw (yes, unknown);
-          x_is = unfold buffer played in rw (yes, unknown);
-          y_is = unfold buffer played in rw (yes, unknown);
+          finished_is = says_none;
+          x_is = sym (refused_buffer (state_of p) c frames restart x y _ x no);
+          y_is = sym (refused_buffer (state_of p) c frames restart x y _ y no);
           valid = v;
         }
+
+  module _ (asked : 0 ≡ number) where
+    put : 0 ≡ answer (state_of p) call
+    put = asked ∙ number_is
+
+    yes : accepts (state_of p) call ≡ true
+    yes = accepts_it (state_of p) call _ put refl
+
+    facts : BlockAccepted p.deck.played c frames restart (length x) (length y)
+    facts = block_accepted p.deck.played c frames restart (length x) (length y) (sym asked)
+
+    -- each code is known
+    pub block_known : transport_at c ≡ None → ⊥
+    block_known = transport_given c facts.transport
 
     -- what the sum of the frames asks
     pub within_life : p.deck.played + frames ≤ 2 ^ 40
@@ -150,11 +158,11 @@ module _ (p : Player) (v : Valid p) (c : TransportCodes) (frames : ℕ) (restart
             unfolding finished
             done_is = ends ∙ rw (ap (λ (z : Curve). z.from) lent_is, parts.count_is)
 
-            pub block_played : Plays p c frames restart x y (record { answer = 0; finished = done; deck = next }) x' y'
+            pub block_played : Plays p c frames restart x y (Ok (record { finished = done; deck = next })) x' y'
             block_played =
                 record {
-                  answer_is = sym e ∙ put;
-                  state_is = rw (step_accepted (state_of p) call a put e) (unfold accepted in rw (known, ← pending) state_after);
+                  answer_is = put;
+                  state_is = rw (step_accepted (state_of p) call _ put refl) (unfold accepted in rw (known, ← pending) state_after);
                   kept = λ (h : accepts (state_of p) call ≡ false). absurd (false≢true (sym h ∙ yes));
                   finished_is = unfold finished_by in rw (yes, known, ← pending) done_is;
                   x_is = unfold buffer played values in rw (yes, known, ← pending) parts.x_is;

@@ -15,19 +15,15 @@ use Rattle.shape.specs.declared.Shape.{Shape}
 use Rattle.path.specs.declared.Path.{Path}
 use Rattle.settings.specs.declared.record.Settings.{Settings}
 use Rattle.reach.specs.Bounds.{SettingsIn}
-use Rattle.slot.specs.declared.page.Page.{Page}
 use Rattle.slot.specs.Slot.{ShapeIn, PathIn, BusesIn}
-use Rattle.slot.specs.Page.{page_of, new_page}
+use Rattle.slot.specs.Page.{page_of}
 use Rattle.slot.proofs.Curves.{void_for}
 use Rattle.slot.proofs.Slots.{new_lfo_in, new_voice_in}
-use Rattle.player.specs.declared.Deck.{Deck}
 use Rattle.player.specs.declared.Player.{Player}
-use Rattle.player.specs.Player.{new_deck, edited_player, Valid}
+use Rattle.player.specs.Player.{new_player, edited_player, Valid}
 
-pub new_valid : (s : Settings) (seed : ℕ) (page : Page) (deck : Deck) → SettingsIn s → page ≡ new_page s → deck ≡ new_deck seed → Valid (record { page = page; deck = deck })
-new_valid s seed page deck i e f =
-    rw (e, f)
-    (record { within = lit≤ tt; lfo_in = new_lfo_in s i; anchor_in = new_voice_in seed; lists_in = refl; kept_for = void_for _ _ })
+pub new_valid : (s : Settings) (seed : ℕ) → SettingsIn s → Valid (new_player s seed)
+new_valid s seed i = record { within = lit≤ tt; lfo_in = new_lfo_in s i; anchor_in = new_voice_in seed; lists_in = refl; kept_for = void_for _ _ }
 
 -- its voice and its clock stay
 pub edited_valid : (p : Player) (s : Settings) (shape : Shape) (path : Path) (buses : List Float) → Valid p

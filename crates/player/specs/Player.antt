@@ -1,12 +1,13 @@
 -- A player: as the rules see it, as it is made, as an edit and a block leave it, and what holds of every one. Assumes nothing.
 use Rattle.std.specs.Prelude.{ℕ, ◌^◌, ◌≤◌}
+use Rattle.settings.specs.declared.record.Settings.{Settings}
 use Rattle.clock.specs.Free.{new_clock}
 use Rattle.reach.specs.Bounds.{AnchorIn}
 use Rattle.voice.specs.Curve.{void_kept, KeptFor}
 use Rattle.voice.specs.Voice.{new_voice}
 use Rattle.slot.specs.declared.page.Page.{Page}
 use Rattle.slot.specs.Slot.{slot_curve, LfoIn}
-use Rattle.slot.specs.Page.{lfo_of, ListsIn}
+use Rattle.slot.specs.Page.{new_page, lfo_of, ListsIn}
 use Rattle.calls.specs.State.{State}
 use Rattle.player.specs.declared.Deck.{Deck}
 use Rattle.player.specs.declared.Player.{Player}
@@ -17,6 +18,10 @@ state_of p = record { lfo = lfo_of p.page p.deck.clock; voice = p.deck.voice; pl
 
 abbrev pub new_deck : ℕ → Deck
 new_deck seed = record { clock = new_clock; voice = new_voice seed; kept = void_kept; played = 0 }
+
+-- just made, with these settings
+abbrev pub new_player : Settings → ℕ → Player
+new_player s seed = record { page = new_page s; deck = new_deck seed }
 
 -- with another page, and no segment kept
 abbrev pub edited_player : Player → Page → Player

@@ -1,22 +1,15 @@
 -- Reading the phase. Assumes nothing.
-use Rattle.std.specs.Prelude.{◌≡◌, [], ◌∷◌}
+use Rattle.std.specs.Prelude.{[], ◌∷◌}
 use Rattle.codes.specs.declared.TransportCodes.{TransportCodes}
 use Rattle.settings.specs.Codes.{transport_at}
-use Rattle.questions.specs.Answers.{Answer, refusal, success, answer_with}
+use Rattle.questions.specs.Answers.{Answer, answer_with, ValueTold}
 use Rattle.calls.specs.State.{State}
 use Rattle.calls.specs.Blocks.{phase_at}
 use Rattle.calls.specs.Calls.{phase, answer, by_transport}
-use Rattle.player.specs.declared.PhaseResult.{PhaseResult}
-use Rattle.player.specs.declared.PhaseResult.TheVariants as PhaseResult
 
--- the number and the value of each case
-unfoldable pub phase_result_answer : PhaseResult → Answer
-phase_result_answer (PhaseResult.Refused n) = refusal n
-phase_result_answer (PhaseResult.At x) = success (x ∷ [])
-
--- they tell the case, so that a promise of them is one of the result
+-- the number and the value of a result tell it, so that a promise of them is one of the result
 abbrev pub PhaseTold : Type 0
-PhaseTold = (r s : PhaseResult) → phase_result_answer r ≡ phase_result_answer s → r ≡ s
+PhaseTold = ValueTold
 
 -- the number of the question that refuses it, or 0 and the phase
 unfoldable pub phase_answer : State → TransportCodes → Answer

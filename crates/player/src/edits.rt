@@ -4,8 +4,9 @@ ghost use Rattle.calls.specs.Calls as call;
 ghost use Rattle.player.specs.Player.{edited_player, Valid};
 ghost use Rattle.player.specs.Promises.{Changes};
 
-use super::{Changed, Deck, Player};
+use super::{Deck, Player};
 use codes::{PathCodes, SettingsCodes, ShapeCodes};
+use questions::Question;
 use settings::Settings;
 use slot::Page;
 use voice::Kept;
@@ -22,68 +23,50 @@ fn edited(p: Player, page: Page) -> Player
 }
 
 // Sets the settings, each number in its range.
-pub fn set_settings(p: Player, c: SettingsCodes) -> Changed
+pub fn set_settings(p: Player, c: SettingsCodes) -> Result<Player, Question>
     requires { Valid p }
     ensures { Changes p (call.settings c) result }
 {
-    let answer = questions::settings_answer(c);
-    if answer != 0 {
-        return Changed { answer, player: p };
-    }
-    let Some(s) = Settings::from_codes(c) else {
-        return Changed { answer, player: p };
-    };
+    questions::settings_answer(c)?;
+    let s = Settings::from_codes(c).ok_or(Question::Known)?;
     let g = p.page;
-    let player = edited(p, Page::of(s.clamped(), g.shape, g.path, g.buses));
-    Changed { answer, player }
+    Ok(edited(p, Page::of(s.clamped(), g.shape, g.path, g.buses)))
 }
 
 // Sets the shape: the first 64 of its points, and the loopback point.
-pub fn set_shape(p: Player, c: ShapeCodes) -> Changed
+pub fn set_shape(p: Player, c: ShapeCodes) -> Result<Player, Question>
     requires { Valid p }
     ensures { Changes p (call.shape c) result }
 {
-    let answer = questions::shape_answer(true, c);
-    if answer != 0 {
-        return Changed { answer, player: p };
-    }
+    questions::shape_answer(true, c)?;
     let shape = curves::shape_of(c);
     let g = p.page;
-    let player = edited(p, Page::of(g.settings, shape, g.path, g.buses));
-    Changed { answer, player }
+    Ok(edited(p, Page::of(g.settings, shape, g.path, g.buses)))
 }
 
 // Sets the path: the first 64 of its points, and whether it is closed.
-pub fn set_path(p: Player, c: PathCodes) -> Changed
+pub fn set_path(p: Player, c: PathCodes) -> Result<Player, Question>
     requires { Valid p }
     ensures { Changes p (call.path c) result }
 {
-    let answer = questions::path_answer(true, c);
-    if answer != 0 {
-        return Changed { answer, player: p };
-    }
+    questions::path_answer(true, c)?;
     let path = curves::path_of(c);
     let g = p.page;
-    let player = edited(p, Page::of(g.settings, g.shape, path, g.buses));
-    Changed { answer, player }
+    Ok(edited(p, Page::of(g.settings, g.shape, path, g.buses)))
 }
 
 // Sets one bus. A value equal to the stored one, 0 and -0 included, changes nothing.
-pub fn set_bus(p: Player, bus: u64, value: f32) -> Changed
+pub fn set_bus(p: Player, bus: u64, value: f32) -> Result<Player, Question>
     requires { Valid p }
     ensures { Changes p (call.bus bus value) result }
 {
-    let answer = questions::bus_answer(bus, value);
-    if answer != 0 {
-        return Changed { answer, player: p };
-    }
+    questions::bus_answer(bus, value)?;
     let k = bus as usize;
     let g = p.page;
     let mut buses = g.buses;
     if buses[k] == value {
-        return Changed { answer, player: p };
+        return Ok(p);
     }
     buses[k] = value;
-    let player = edited(p, Page::of(g.settings, g.shape, g.path, buses));
-    Changed { answer, player }
+    Ok(edited(p, Page::of(g.settings, g.shape, g.path, buses)))
 }

@@ -1,5 +1,6 @@
 // A player, and every call of document 01 on it. A player goes in by value. A call that sets something gives back a player; a block gives back the player's
-// deck, all that a block changes, and the caller puts it in its place: `p.deck = r.deck`. A call that is refused gives back what it was handed.
+// deck, all that a block changes, and the caller puts it in its place: `p.deck = r.deck`. A call that is refused gives the first question that it fails, and the
+// caller goes on with the player that it handed in.
 //
 // `Valid` of specs/Player.antt is what every player has: `make` ensures it, and each other call asks it and keeps it.
 #![tactic(auto)]
@@ -11,7 +12,7 @@ mod playing;
 
 use clock::Clock;
 pub use edits::{set_bus, set_path, set_settings, set_shape};
-pub use making::make;
+pub use making::{default_player, make};
 pub use phases::phase;
 pub use playing::play;
 use slot::Page;
@@ -33,31 +34,9 @@ pub struct Player {
     pub deck: Deck,
 }
 
-// What making a player gives. Where the answer is not 0 the player has the default settings and is not to be used.
-#[derive(Clone, Copy)]
-pub struct Made {
-    pub answer: u8,
-    pub player: Player,
-}
-
-// What a call that sets something gives.
-#[derive(Clone, Copy)]
-pub struct Changed {
-    pub answer: u8,
-    pub player: Player,
-}
-
 // What playing a block gives: the player's deck after it, and whether a One-shot has reached its end in it.
 #[derive(Clone, Copy)]
 pub struct Played {
-    pub answer: u8,
     pub finished: bool,
     pub deck: Deck,
-}
-
-// The number of the question that refused a read of the phase, or the phase.
-#[derive(Clone, Copy)]
-pub enum PhaseResult {
-    Refused(u8),
-    At(f32),
 }

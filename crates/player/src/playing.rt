@@ -2,10 +2,12 @@
 ghost use Rattle.std.specs.Prelude.{◌≡◌};
 ghost use Rattle.calls.specs.Blocks.{pending_of};
 ghost use Rattle.player.specs.Player.{Valid};
-ghost use Rattle.player.specs.Promises.{refused_with, Plays};
+ghost use Rattle.player.specs.Promises.{Plays};
 
-use super::{Deck, Played, Player};
+use super::{Played, Player};
+use bank::Rendered;
 use codes::{RestartCodes, TransportCodes};
+use questions::Question;
 use settings::Transport;
 use voice::CurveView;
 
@@ -20,17 +22,6 @@ fn pending(c: RestartCodes) -> Option<usize>
     None
 }
 
-// What a block that is refused gives: the deck that it was handed.
-fn refused(answer: u8, deck: Deck) -> Played
-    ensures { result ≡ refused_with answer deck }
-{
-    Played {
-        answer,
-        finished: false,
-        deck,
-    }
-}
-
 // Plays a block of `frames` frames from the transport at its first sample into the first of x and y, restarting the voice where `restart` says: the block is that of
 // `process_scalar` of lfo/bank.rs. What is lent is copied to locals first, since a parameter that is lent is copied whole.
 pub fn play(
@@ -40,18 +31,13 @@ pub fn play(
     restart: RestartCodes,
     x: &mut [f32],
     y: &mut [f32],
-) -> Played
+) -> Result<Played, Question>
     requires { Valid p }
     ensures { Plays p t frames restart x.old y.old result x.new y.new }
 {
     let mut deck = p.deck;
-    let answer = questions::block_answer(deck.played, t, frames, restart, x.len(), y.len());
-    if answer != 0 {
-        return refused(answer, deck);
-    }
-    let Some(transport) = Transport::from_codes(t) else {
-        return refused(answer, deck);
-    };
+    questions::block_answer(deck.played, t, frames, restart, x.len(), y.len())?;
+    let transport = Transport::from_codes(t).ok_or(Question::Known)?;
     let settings = p.page.settings;
     let lists = p.page.lists;
     let times = p.page.path.times;
@@ -70,8 +56,11 @@ pub fn play(
         settings,
         prepared.block,
         curve,
-        deck.voice,
-        deck.kept,
+        Rendered {
+            voice: deck.voice,
+            kept: deck.kept,
+            count: 0.0,
+        },
         pending(restart),
         frames as usize,
         x,
@@ -81,16 +70,6 @@ pub fn play(
     deck.voice = r.voice;
     deck.kept = r.kept;
     deck.played = deck.played + frames;
-    let finished = position::finished(
-        settings.kind,
-        settings.mode,
-        settings.direction,
-        curve.from,
-        r.count,
-    );
-    Played {
-        answer: 0,
-        finished,
-        deck,
-    }
+    let finished = position::finished(settings, curve.from, r.count);
+    Ok(Played { finished, deck })
 }

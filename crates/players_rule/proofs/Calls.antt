@@ -13,6 +13,8 @@ use Rattle.calls.specs.Blocks.{pending_of}
 use Rattle.calls.specs.Calls.{Call, settings, shape, path, bus, phase, block, is_edit, by_block, accepts, step}
 use Rattle.calls.proofs.Answers.{phase_keeps}
 use Rattle.player.specs.declared.Player.{Player}
+use Rattle.std.specs.Prelude.{Result}
+use Rattle.questions.specs.declared.question.Question.{Question}
 use Rattle.player.specs.declared.Played.{Played}
 use Rattle.player.specs.Player.{state_of}
 use Rattle.player.specs.Promises.{Plays}
@@ -21,7 +23,7 @@ use Rattle.reached.specs.Traces.{Trace, none, sets, reads, plays}
 use Rattle.players_rule.specs.Written.{buffer_of, written, transports}
 
 -- what one block left in a buffer
-pub read_is : (side : Side) (p : Player) (t : TransportCodes) (n : ℕ) (restart : RestartCodes) (x y : List Float) (r : Played) (x' y' : List Float)
+pub read_is : (side : Side) (p : Player) (t : TransportCodes) (n : ℕ) (restart : RestartCodes) (x y : List Float) (r : Result Played Question) (x' y' : List Float)
     → Plays p t n restart x y r x' y' → take n (buffer_of side x' y') ≡ read side (state_of p) t n restart x y
 unfolding read
 read_is x_side p t n restart x y r x' y' m = ap (take n) m.x_is

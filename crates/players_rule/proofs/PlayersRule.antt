@@ -8,6 +8,7 @@ use borrow.Author.Tests.{eq-eqb}
 use Rattle.calls.specs.State.{State}
 use Rattle.calls.specs.Calls.{Call, block, answer, step, after}
 use Rattle.player.specs.Player.{state_of, with_deck}
+use Rattle.player.specs.Promises.{deck_after}
 use Rattle.codes.specs.declared.TransportCodes.{TransportCodes}
 use Rattle.restart.specs.Heard.{Side, window}
 use Rattle.restart.specs.Rule.{RestartFrom, AtRestart, Hypotheses, JustMade, new_player}
@@ -29,7 +30,7 @@ module _ (s : Session) where
   unfolding player
   at_is = history_state s.history
 
-  past_is : state_of (with_deck s.at s.block.deck) ≡ step (after (new_player player) s.history.calls) call
+  past_is : state_of (with_deck s.at (deck_after s.at s.block)) ≡ step (after (new_player player) s.history.calls) call
   past_is = s.plays.state_is ∙ ap (λ (z : State). step z call) at_is
 
   pub restart : RestartFrom (new_player player)

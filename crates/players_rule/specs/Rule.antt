@@ -1,13 +1,15 @@
 -- The restart rule of players: `RestartRule` of crate `restart`, of what players gave and left that met their contracts. It is proved in proofs/PlayersRule.antt. Assumes nothing.
-use Rattle.std.specs.Prelude.{ℕ, ◌<◌, min, ◌≡◌, List, ◌∷◌, ◌++◌, length, get_or, take, drop, Float}
+use Rattle.std.specs.Prelude.{ℕ, ◌<◌, min, ◌≡◌, List, ◌∷◌, ◌++◌, length, get_or, take, drop, Float, Result}
 use Rattle.std.specs.Float.{nan}
 use Rattle.codes.specs.declared.TransportCodes.{TransportCodes}
 use Rattle.codes.specs.declared.RestartCodes.{RestartCodes}
+use Rattle.questions.specs.declared.question.Question.{Question}
+use Rattle.questions.specs.Answers.{answer_of}
 use Rattle.calls.specs.Calls.{Call}
 use Rattle.player.specs.declared.Player.{Player}
 use Rattle.player.specs.declared.Played.{Played}
 use Rattle.player.specs.Player.{state_of, with_deck, Valid}
-use Rattle.player.specs.Promises.{Plays}
+use Rattle.player.specs.Promises.{deck_after, Plays}
 use Rattle.restart.specs.Heard.{Side}
 use Rattle.restart.specs.Rule.{word_after, AtRestart, TransportFields, Hypotheses}
 use Rattle.reached.specs.Traces.{Trace, ValidAll, History}
@@ -18,23 +20,23 @@ pub record Session : Type 0 where
   -- the player that the restart's block gets: one "just made", its making accepted, and the calls before the block
   pub at : Player
   pub history : History at
-  pub made : history.first.answer ≡ 0
+  pub made : answer_of history.first ≡ 0
   -- "A restart is one that an accepted block carries": the block, what it gave, and the buffers as they were (x and y) and as it left them (x' and y')
   pub transport : TransportCodes
   pub frames : ℕ
   pub restart : RestartCodes
   pub x : List Float
   pub y : List Float
-  pub block : Played
+  pub block : Result Played Question
   pub x' : List Float
   pub y' : List Float
   pub plays : Plays at transport frames restart x y block x' y'
-  pub accepted : block.answer ≡ 0
+  pub accepted : answer_of block ≡ 0
   pub carried : restart.code ≡ 1
   -- the calls after it
   pub rest : List Call
   pub last : Player
-  pub from_block : Trace (with_deck at block.deck) rest last
+  pub from_block : Trace (with_deck at (deck_after at block)) rest last
 
 module _ (s : Session) where
   -- "at its frame or, where that lies beyond the end, at the end"

@@ -1,35 +1,45 @@
 -- What `partition_point` says of ascending numbers: it parts those at or before x from those after it, as Rust's `partition_point` does. Assumes nothing.
-use mathlib.Core.Path.{◌≡◌, refl}
+use mathlib.Core.Path.{◌≡◌, refl, sym, ap, ◌∙◌}
 use mathlib.Core.Bool.{Bool, true, false, not}
 use mathlib.Core.List.{List}
-use Prim.Native.Nat.{ℕ, zero, suc, ◌-◌, ◌≤◌, ◌<◌}
-use native.Mathlib.Nat.{le_refl, le_of_suc-le-suc}
+use Prim.Native.Nat.{ℕ, zero, suc, ◌≤◌, ◌<◌}
+use native.Mathlib.Nat.{le_refl, le_of_suc-le-suc, suc_inj}
 use native.Mathlib.Omega.{arith}
 use lib.Dec.{T, not_T}
-use lib.ListN.{get_or}
+use lib.ListN.{length, take, get_or}
+use Rattle.std.proofs.lemmas.List.{get_or-take, length-take-le}
 use lib.Ieee.{Float, nan, le, lt}
 use Rattle.floatlaws.proofs.NoNan.{Number}
+use Rattle.floatlaws.proofs.Tests.{yes_so, not_so}
 use Rattle.floatlaws.proofs.Order.{le_left, le_trans_at, lt_not_le, not_le→lt, lt_of_lt_of_le_at}
 use Rattle.points.specs.Arrays.{Ascends, partition_point}
 use Rattle.points.specs.Laws.{PartitionRule}
-use Rattle.listlaws.proofs.LastWhere.{last_found, last_passed, last_none, last_le, last_at, last_after, last_unique}
+use Rattle.listlaws.proofs.LastWhere.{last_le, last_at, last_after, last_unique, last_same}
 
 abbrev before : List Float → Float → ℕ → Bool
 before xs x k = le (get_or xs k nan) x
 
 -- ---- looked for from the last place down
 
-pub partition_found : (xs : List Float) (i : ℕ) (x : Float) → 1 ≤ i → le (get_or xs (i - 1) nan) x ≡ true → partition_point xs i x ≡ i
-unfolding partition_point
-partition_found xs i x h e = last_found (before xs x) i h e
+module _ (xs : List Float) (x : Float) where
+  pub partition_found : (n i : ℕ) → i < n → le (get_or xs i nan) x ≡ true → ((k : ℕ) → i < k → k < n → le (get_or xs k nan) x ≡ false) → partition_point xs n x ≡ suc i
+  unfolding partition_point
+  partition_found n i h a b =
+      last_unique (before xs x) n (suc i) h
+      (λ (k : ℕ) (e : suc i ≡ suc k). yes_so (ap (before xs x) (suc_inj (sym e)) ∙ a))
+      (λ (k : ℕ) (p : suc i ≤ k) (q : k < n). not_so (b k p q))
 
-pub partition_passed : (xs : List Float) (i : ℕ) (x : Float) → 1 ≤ i → le (get_or xs (i - 1) nan) x ≡ false → partition_point xs i x ≡ partition_point xs (i - 1) x
-unfolding partition_point
-partition_passed xs i x h e = last_passed (before xs x) i h e
+  pub partition_none : (n : ℕ) → ((k : ℕ) → k < n → le (get_or xs k nan) x ≡ false) → partition_point xs n x ≡ 0
+  unfolding partition_point
+  partition_none n b =
+      last_unique (before xs x) n 0 (omega arith)
+      (λ (k : ℕ) (e : 0 ≡ suc k). let z : ⊥ = omega arith in absurd z)
+      (λ (k : ℕ) (p : 0 ≤ k) (q : k < n). not_so (b k q))
 
-pub partition_none : (xs : List Float) (i : ℕ) (x : Float) → i ≤ 0 → partition_point xs i x ≡ i
+-- the same of the first n of a longer list
+pub partition_take : (xs : List Float) (n : ℕ) (x : Float) → n ≤ length xs → partition_point (take n xs) (length (take n xs)) x ≡ partition_point xs n x
 unfolding partition_point
-partition_none xs i x h = last_none (before xs x) i h
+partition_take xs n x h = rw (length-take-le n xs h) (last_same (before (take n xs) x) (before xs x) n (λ (k : ℕ) (l : k < n). ap (λ (y : Float). le y x) (get_or-take n xs k nan l)))
 
 -- ---- the numbers on either side
 

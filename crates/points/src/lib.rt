@@ -79,16 +79,13 @@ pub fn placed(at: f32, m: Option<PointMod>, buses: &[f32; POINT_BUSES]) -> f32
     extrema::clamp(moved(at, m, buses), 0.0, 1.0)
 }
 
-// How many of the first `n` of `xs` stand up to the last one at or before `x`. On ascending `xs` this is Rust's
-// `partition_point(|p| p <= x)`, for which document 01 asks for a loop from the last place down.
-pub fn partition_point(xs: &[f32], n: usize, x: f32) -> usize
-    requires { n ≤ length xs.now }
-    ensures { (result ≡ partition_point xs.now n x) × (result ≤ n) }
+// How many of `xs` stand up to the last one at or before `x`. On ascending `xs` this is Rust's `partition_point(|p| p <= x)`,
+// for which document 01 asks for a loop from the last place down, as `rposition` is.
+pub fn partition_point(xs: &[f32], x: f32) -> usize
+    ensures { (result ≡ partition_point xs.now (length xs.now) x) × (result ≤ length xs.now) }
 {
-    for i in (0..n).rev() {
-        if xs[i] <= x {
-            return i + 1;
-        }
+    match xs.iter().rposition(|p| *p <= x) {
+        Some(i) => i + 1,
+        None => 0,
     }
-    0
 }

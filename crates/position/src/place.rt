@@ -2,7 +2,7 @@
 ghost use Rattle.std.specs.Prelude.{◌≡◌};
 ghost use Rattle.position.specs.Position.{odd_cycle, cyclic_of, forward_once, reverse_once, back_once, bounced, ping_pong_once, once_of, position_of};
 
-use settings::{Direction, Mode};
+use settings::{Direction, Mode, Settings};
 
 // Below this a loop has no length.
 pub const EPS: f64 = 0.000000001;
@@ -16,6 +16,7 @@ fn is_odd(cycle: f64) -> bool
 }
 
 // A cycle after the other.
+#[tactic(auto, unfolding(crate::specs::Position::cyclic_of))]
 fn cyclic(direction: Direction, c: f64) -> f64
     ensures { result ≡ cyclic_of direction c }
 {
@@ -29,6 +30,7 @@ fn cyclic(direction: Direction, c: f64) -> f64
 }
 
 // One cycle, then a loop from the loopback point to the end.
+#[tactic(auto, unfolding(crate::specs::Position::forward_once, crate::specs::Position::forward_loop))]
 fn forward_once(c: f64, loopback: Option<f64>) -> f64
     ensures { result ≡ forward_once c loopback }
 {
@@ -42,6 +44,7 @@ fn forward_once(c: f64, loopback: Option<f64>) -> f64
 }
 
 // In reverse, the loop runs from the loopback point back to the start.
+#[tactic(auto, unfolding(crate::specs::Position::reverse_once, crate::specs::Position::reverse_loop))]
 fn reverse_once(c: f64, loopback: Option<f64>) -> f64
     ensures { result ≡ reverse_once c loopback }
 {
@@ -55,6 +58,7 @@ fn reverse_once(c: f64, loopback: Option<f64>) -> f64
 }
 
 // d into a bounce from the end to the loopback point and back, each w long.
+#[tactic(auto, unfolding(crate::specs::Position::bounced))]
 fn bounce(l: f64, w: f64, d: f64) -> f64
     ensures { result ≡ bounced l w d }
 {
@@ -62,6 +66,7 @@ fn bounce(l: f64, w: f64, d: f64) -> f64
 }
 
 // There and back once.
+#[tactic(auto, unfolding(crate::specs::Position::back_once))]
 fn back_once(c: f64) -> f64
     ensures { result ≡ back_once c }
 {
@@ -96,11 +101,11 @@ fn once(direction: Direction, c: f64, loopback: Option<f64>) -> f64
 }
 
 // Where in the shape (0 to 1) position `c` cycles falls, by mode and direction, with a One-shot loopback at `loopback`, if any (0 to 1).
-pub fn position(mode: Mode, direction: Direction, c: f64, loopback: Option<f64>) -> f64
-    ensures { result ≡ position_of mode direction c loopback }
+pub fn position(s: Settings, c: f64, loopback: Option<f64>) -> f64
+    ensures { result ≡ position_of s.mode s.direction c loopback }
 {
-    match mode {
-        Mode::Free | Mode::Restart => cyclic(direction, c),
-        Mode::OneShot => once(direction, extrema::max(c, 0.0), loopback),
+    match s.mode {
+        Mode::Free | Mode::Restart => cyclic(s.direction, c),
+        Mode::OneShot => once(s.direction, extrema::max(c, 0.0), loopback),
     }
 }

@@ -4,7 +4,7 @@ ghost use Rattle.position.specs.Position.{loop_length};
 ghost use Rattle.position.specs.Rest.{loops_back, loopback_in_force, rest_from, finished_from, finished_of};
 
 use super::place::EPS;
-use settings::{Direction, LfoType, Mode};
+use settings::{Direction, LfoType, Mode, Settings};
 
 // How long the loop from a loopback point at l is.
 fn loop_length(direction: Direction, l: f64) -> f64
@@ -28,11 +28,12 @@ fn loops_back(direction: Direction, loopback: Option<f64>) -> bool
 }
 
 // Only a drawn shape loops back.
-fn loopback_in_force(kind: LfoType, direction: Direction, loopback: Option<f64>) -> bool
-    ensures { result ≡ loopback_in_force kind direction loopback }
+#[tactic(auto, unfolding(crate::specs::Rest::loopback_in_force))]
+fn loopback_in_force(s: Settings, loopback: Option<f64>) -> bool
+    ensures { result ≡ loopback_in_force s.kind s.direction loopback }
 {
-    match kind {
-        LfoType::Drawn => loops_back(direction, loopback),
+    match s.kind {
+        LfoType::Drawn => loops_back(s.direction, loopback),
         LfoType::Path => false,
         LfoType::Lorenz => false,
         LfoType::Rossler => false,
@@ -52,12 +53,13 @@ fn rest_from(direction: Direction) -> f64
 }
 
 // The count from which a One-shot with no loopback in force has finished, a generator after one cycle in every direction.
-fn finished_from(kind: LfoType, direction: Direction) -> f64
-    ensures { result ≡ finished_from kind direction }
+#[tactic(auto, unfolding(crate::specs::Rest::finished_from))]
+fn finished_from(s: Settings) -> f64
+    ensures { result ≡ finished_from s.kind s.direction }
 {
-    match kind {
-        LfoType::Drawn => rest_from(direction),
-        LfoType::Path => rest_from(direction),
+    match s.kind {
+        LfoType::Drawn => rest_from(s.direction),
+        LfoType::Path => rest_from(s.direction),
         LfoType::Lorenz => 1.0,
         LfoType::Rossler => 1.0,
         LfoType::SampleAndHold => 1.0,
@@ -65,23 +67,13 @@ fn finished_from(kind: LfoType, direction: Direction) -> f64
 }
 
 // Whether a block whose last frame has this swung cycle count ends a One-shot.
-pub fn finished(
-    kind: LfoType,
-    mode: Mode,
-    direction: Direction,
-    loopback: Option<f64>,
-    count: f64,
-) -> bool
-    ensures { result ≡ finished_of kind mode direction loopback count }
+#[tactic(auto, unfolding(crate::specs::Rest::finished_of))]
+pub fn finished(s: Settings, loopback: Option<f64>, count: f64) -> bool
+    ensures { result ≡ finished_of s.kind s.mode s.direction loopback count }
 {
-    match mode {
+    match s.mode {
         Mode::Free => false,
         Mode::Restart => false,
-        Mode::OneShot => {
-            if loopback_in_force(kind, direction, loopback) {
-                return false;
-            }
-            count >= finished_from(kind, direction)
-        }
+        Mode::OneShot => !loopback_in_force(s, loopback) && count >= finished_from(s),
     }
 }

@@ -9,7 +9,7 @@ ghost use Rattle.std.specs.Prelude.{◌≤◌, ◌<◌, ◌^◌, ◌≡◌, true
 ghost use Rattle.turns.specs.Turns.{is_over, turn_room};
 
 use std::io::{Read, Write};
-use turns::{Progress, Sitting};
+use turns::Sitting;
 use window::refill;
 
 // The bytes of the window.
@@ -24,62 +24,19 @@ const ROOM: usize = 319488;
 // More bytes than any input has. Their events can be counted.
 const MOST: u64 = 0x8000_0000_0000_0000;
 
-// Writes the first `n` bytes, and answers whether to go on: not where the output is closed, or nothing more is printed.
-fn print_some<W: Write>(to: &mut W, out: &[u8], n: usize, progress: Progress) -> bool
-    requires { n ≤ length out.now }
-    ensures { result ≡ true → is_over progress ≡ false }
+// Writes what was printed, and answers whether to go on: not where the output is closed, or nothing more is printed.
+fn print_some<W: Write>(to: &mut W, text: &[u8], t: &Sitting) -> bool
+    ensures { result ≡ true → is_over t.now ≡ false }
 {
-    to.write_all(&out[..n]).is_ok() && !turns::is_over(progress)
+    to.write_all(text).is_ok() && !turns::is_over(t)
 }
 
 // Writes what is still due where the input has ended.
 fn print_last<W: Write>(to: &mut W, t: Sitting, s: &[u8], out: &mut [u8])
-    requires { (turn_room ≤ length out.old) × (t.index < 2 ^ 64) }
+    requires { turn_room ≤ length out.old }
 {
     let n = turns::last_text(t, s, out);
     let _ = to.write_all(&out[..n]);
-}
-
-// Prints through a window and buffers that are lent.
-fn print_through<R: Read, W: Write, E: Write>(
-    input: &mut R,
-    to: &mut W,
-    errors: &mut E,
-    window: &mut [u8],
-    x: &mut [f32],
-    y: &mut [f32],
-    out: &mut [u8],
-    most: u64,
-) -> u64
-    requires { (length window.old ≡ 65536) × (length x.old ≡ 4096) × (length y.old ≡ 4096) × (length out.old ≡ 319488) }
-    ensures { result ≤ most }
-{
-    let mut sitting = turns::begin();
-    let mut from = 0;
-    let mut have = 0;
-    let mut left = most.min(MOST);
-    let mut ended = false;
-    // How far it goes is known only after a read, so this is no `for`.
-    while !ended {
-        let r = turns::take_turns(sitting, &window[from..have], x, y, out);
-        sitting = r.sitting;
-        from += r.taken;
-        if !print_some(to, out, r.written, sitting.progress) {
-            return left;
-        }
-        if !r.full {
-            let f = refill(input, errors, window, from, have, left);
-            from = 0;
-            have = f.have;
-            left = f.left;
-            ended = f.ended;
-            if f.failed {
-                return left;
-            }
-        }
-    }
-    print_last(to, sitting, &window[from..have], out);
-    left
 }
 
 // Prints on `to` the sheet of the sitting in the next `most` bytes of `input`, or in all where there are fewer, and words on a read that fails on `errors`. Answers how many of
@@ -96,14 +53,31 @@ pub fn print_sheet<R: Read, W: Write, E: Write>(
     let mut x = [0.0; BLOCK];
     let mut y = [0.0; BLOCK];
     let mut out = [0; ROOM];
-    print_through(
-        input,
-        to,
-        errors,
-        &mut window,
-        &mut x,
-        &mut y,
-        &mut out,
-        most,
-    )
+    let mut sitting = turns::begin();
+    let mut from = 0;
+    let mut have = 0;
+    let mut left = most.min(MOST);
+    // How far it goes is known only after a read, so this is no `for`.
+    loop {
+        let r = turns::take_turns(sitting, &window[from..have], &mut x, &mut y, &mut out);
+        sitting = r.sitting;
+        from += r.taken;
+        if !print_some(to, &out[..r.written], &sitting) {
+            return left;
+        }
+        if !r.full {
+            let Ok(count) = refill(input, &mut window, from, have, left) else {
+                let _ = errors.write_all(b"standard input cannot be read\n");
+                return left;
+            };
+            have = have - from + count;
+            from = 0;
+            left -= count as u64;
+            if count == 0 {
+                break;
+            }
+        }
+    }
+    print_last(to, sitting, &window[..have], &mut out);
+    left
 }

@@ -1,9 +1,10 @@
 -- What the questions leave of a call that is accepted, of which `first_no` is 0. Assumes nothing.
+use Rattle.std.specs.Option.{is_some}
 use Rattle.std.specs.Prelude.{None, Option, Some, slice_get}
 use Prim.Native.Nat.{ℕ, zero, suc, ◌+◌, ◌^◌, ◌≤◌, ◌<◌, min}
-use mathlib.Core.Path.{◌≡◌, refl, sym, subst}
+use mathlib.Core.Path.{◌≡◌, refl, sym, ap, ◌∙◌, subst}
 use mathlib.Core.Logic.{inl, inr}
-use mathlib.Core.Bool.{Bool, true, false, not, cond}
+use mathlib.Core.Bool.{Bool, true, false, not, cond, false≢true}
 use mathlib.Core.List.{List, ◌∷◌}
 use native.Mathlib.Nat.{eq-or-lt_of_le, le_of_suc-le-suc}
 use native.Mathlib.Omega.{arith}
@@ -29,6 +30,7 @@ use Rattle.settings.specs.Choices.{feel_at, yes_no_at}
 use Rattle.settings.specs.Divisions.{division_at}
 use Rattle.settings.specs.Times.{rates, synced_rate, hz_rate, rate_at, scales, scale_at}
 use Rattle.settings.specs.Codes.{settings_at, transport_at, settings_known, transport_known}
+use Rattle.settings.proofs.Known.{settings_known_lem, transport_is_known}
 use Rattle.settings.proofs.Read.{settings_read, transport_read}
 use Rattle.codes.specs.declared.RateCodes.{RateCodes}
 use Rattle.codes.specs.declared.ScaleCodes.{ScaleCodes}
@@ -46,7 +48,7 @@ use Rattle.curves.specs.Given.{mod_of, no_point_codes, no_path_point_codes, poin
 use Rattle.codes.specs.declared.RestartCodes.{RestartCodes}
 use Rattle.questions.specs.Limits.{f64_64, f64_1000, f64_768000, f64_2147483647, f64_minus2147483648}
 use Rattle.questions.specs.Tests.{every_kept, every, between, rate_finite, span_finite, smooth_finite, settings_finite, smooth_in, mod_finite, point_finite, shape_finite, path_finite, transport_finite, transport_in, loopback_below, loopback_in, path_point_on_paper, path_on_paper, point_on_grid, shape_on_grid}
-use Rattle.questions.specs.Questions.{Question, first_no, settings_questions, shape_questions, path_questions, bus_questions, phase_questions, block_questions}
+use Rattle.questions.specs.Questions.{Posed, first_no, settings_questions, shape_questions, path_questions, bus_questions, phase_questions, block_questions}
 use Rattle.questions.proofs.Laws.{and_true, three, five, seven}
 use Rattle.settings.specs.declared.division.Division.{Division}
 use Rattle.settings.specs.declared.choices.Feel.{Feel}
@@ -56,7 +58,7 @@ use Rattle.settings.specs.declared.times.Scale.{Scale}
 -- ---- the laws that the others cite
 
 -- where no question is failed, the first is passed, and none of the rest is failed (no question has the number 0)
-pub passed : (k : ℕ) (test : Bool) (rest : List Question) → first_no ((suc k, test) ∷ rest) ≡ 0 → (test ≡ true) × (first_no rest ≡ 0)
+pub passed : (k : ℕ) (test : Bool) (rest : List Posed) → first_no ((suc k, test) ∷ rest) ≡ 0 → (test ≡ true) × (first_no rest ≡ 0)
 unfolding first_no
 passed k true rest h = (refl, h)
 passed k false rest h = let z : ⊥ = omega arith in absurd z
@@ -88,6 +90,10 @@ settings_accepted c h =
     let q2 = passed 1 _ _ q1.1 in
     let q5 = passed 4 _ _ q2.1 in
     record { known = q1.0; finite_all = q2.0; smooth_is_in = q5.0 }
+
+-- each of their codes is known
+pub settings_given : (c : SettingsCodes) → first_no (settings_questions c) ≡ 0 → settings_at c ≡ None → ⊥
+settings_given c h e = false≢true (sym (ap is_some e) ∙ settings_known_lem c ∙ (settings_accepted c h).known)
 
 abbrev KnownRate : Option Rate → Type 0
 KnownRate (Some r) = RateNumber r
@@ -159,6 +165,10 @@ pub record TransportAccepted (c : TransportCodes) : Type 0 where
   pub known : transport_known c ≡ true
   pub finite_all : transport_finite c ≡ true
   pub in_range : transport_in c ≡ true
+
+-- each of its codes is known
+pub transport_given : (c : TransportCodes) → TransportAccepted c → transport_at c ≡ None → ⊥
+transport_given c h e = false≢true (sym (ap is_some e) ∙ transport_is_known c ∙ h.known)
 
 pub transport_is_in : (c : TransportCodes) → TransportAccepted c → (t : Transport) → transport_at c ≡ Some t → TransportIn t
 unfolding transport_finite transport_in

@@ -1,16 +1,13 @@
 -- Laws of the tests, for the proofs of the functions. Assumes nothing.
-use Prim.Native.Nat.{ℕ, zero, suc, ◌+◌, ◌≤◌}
+use Prim.Native.Nat.{ℕ, zero, suc, ◌≤◌}
 use mathlib.Core.Path.{◌≡◌, refl, sym, ◌∙◌}
-use mathlib.Core.Bool.{Bool, true, false, not, ◌&&◌, ◌||◌, cond, false≢true}
+use mathlib.Core.Bool.{Bool, true, false, ◌&&◌, ◌||◌, cond, false≢true}
 use mathlib.Core.List.{List, [], ◌∷◌}
-use native.Mathlib.Numerals.{add-one}
 use native.Mathlib.Omega.{arith}
 use lib.ListN.{length, get_or, take}
 use Rattle.std.specs.List.{list_all}
 use Rattle.std.proofs.Math.Seq.{take-suc}
 use Rattle.std.proofs.lemmas.List.Folds.{list_all-append}
-use lib.Dec.{leb}
-use borrow.Author.Tests.{leb-true}
 use lib.Ieee.{Float, nan, inf, fin, lt, le, eq}
 use Rattle.std.specs.Float.{float_is_finite}
 use Rattle.std.proofs.Common.{None, Some, Less, Equal, Greater}
@@ -19,10 +16,6 @@ use Rattle.std.specs.Range.{range_inclusive_start, range_inclusive_end, range_in
 use Rattle.std.specs.Ordering.{is_some_and, is_le, partial_le, float_partial_cmp}
 use lib.Ieee.Scale.{finite}
 use Rattle.questions.specs.Tests.{every, between}
-
-pub chosen_is : (chosen passes : Bool) → (not chosen || passes) ≡ cond chosen passes true
-chosen_is true passes = refl
-chosen_is false passes = refl
 
 -- `is_finite` of the library
 pub finite_is : (x : Float) → float_is_finite x ≡ finite x
@@ -51,12 +44,6 @@ pub within : (r : RangeInclusive Float) (x : Float) {lo hi : Float} {asked : Boo
     → asked ≡ between lo x hi
 within r x {lo = lo} {hi = hi} e a b d = rw (e, a, d, b, le_is lo x, le_is x hi)
 
--- ---- a loop that tests one more
-
-pub every_more : (t : ℕ → Bool) (i : ℕ) {all next : Bool} → all ≡ every t i → next ≡ t i → (all && next) ≡ every t (i + 1)
-unfolding every
-every_more t i a b = rw (a, b, add-one)
-
 -- ---- a test of the first n of a list
 
 and_true_is : (b : Bool) → (b && true) ≡ b
@@ -76,10 +63,6 @@ no e h = sym e ∙ h
 
 pub yes : {asked test : Bool} → asked ≡ test → asked ≡ true → test ≡ true
 yes e h = sym e ∙ h
-
--- the test with the call's other floats
-pub also : {asked test : Bool} → asked ≡ test → (others : Bool) → (asked && others) ≡ (test && others)
-also e others = rw e
 
 pub and_true : (a b : Bool) → (a && b) ≡ true → (a ≡ true) × (b ≡ true)
 and_true true b h = (refl, h)
@@ -103,7 +86,3 @@ seven a b c d e f g h =
     let q = three (a && b && c && d && e) f g h in
     let p = five a b c d e q.0 in
     (p.0, p.1, p.2, p.3, p.4, q.1, q.2)
-
--- question 7 leaves few frames
-pub few : (frames a b : ℕ) {asked : Bool} → asked ≡ (leb frames 4096 && leb frames a && leb frames b) → asked ≡ true → frames ≤ 4096
-few frames a b e h = leb-true _ _ (three (leb frames 4096) (leb frames a) (leb frames b) (yes e h)).0

@@ -9,6 +9,7 @@ pub fn if_chosen(chosen: bool, passes: bool) -> bool
     !chosen | passes
 }
 
+// Two functions, since std has a method for each format; and what it answers is said here in the word of the specs, once for all callers.
 pub fn is_finite_f32(x: f32) -> bool
     ensures { result ≡ finite x }
 {

@@ -1,7 +1,7 @@
 -- A sample takes an attractor 1 to 16 steps, and a player's phase is reached in at most 117. Assumes nothing.
 use Prim.Native.Nat.{ℕ, ◌+◌, ◌-◌, ◌*◌, ◌/◌, ◌^◌, ◌≤◌, ◌<◌}
 use mathlib.Core.Path.{◌≡◌, refl, ap}
-use mathlib.Core.Bool.{Bool, true, false, not}
+use mathlib.Core.Bool.{true, false, not}
 use native.Mathlib.Nat.{le_trans, zero-lt-suc, le-div_iff_mul-le, div-le_of_le-mul, le-min, min-le_left}
 use native.Mathlib.Omega.{arith}
 use lib.Dec.{T, lit≤}
@@ -17,7 +17,6 @@ use Rattle.floatlaws.proofs.Order.{le_says, says_le}
 use Rattle.floatlaws.specs.Size.{Sized, Size, AtLeast}
 use Rattle.floatlaws.proofs.Size.{size_finite, mul_size, div_size}
 use Rattle.chaos.specs.declared.law.Attractor.{Attractor}
-use Rattle.chaos.specs.declared.law.Attractor.TheVariants as Attractor
 use Rattle.chaos.specs.Law.{law_of, LORENZ, ROSSLER}
 use Rattle.chaos.specs.Advance.{advanced}
 use Rattle.chaos.proofs.Steps.{few_steps}

@@ -1,5 +1,5 @@
 -- What it means that a block says finished (document 02, W-204: "finished means that position has come to rest"), for every player that calls have reached. Assumes nothing.
-use Rattle.std.specs.Prelude.{ℕ, suc, ◌^◌, ◌≡◌, ◌⊎◌, Bool, true, false, List, T, Float, Option}
+use Rattle.std.specs.Prelude.{ℕ, suc, ◌^◌, ◌≡◌, ◌⊎◌, Bool, true, false, List, T, Float, Option, Result}
 use Rattle.std.specs.Float.Ieee.{le}
 use Rattle.floatlaws.specs.Numbers.{f64}
 use Rattle.settings.specs.declared.choices.LfoType.TheVariants.{Drawn, Path}
@@ -11,10 +11,11 @@ use Rattle.position.specs.Rest.{loopback_in_force}
 use Rattle.position.specs.Laws.{Moves, rest_at}
 use Rattle.calls.specs.State.{State}
 use Rattle.calls.specs.Blocks.{curve, end_count, finished}
+use Rattle.questions.specs.declared.question.Question.{Question}
 use Rattle.player.specs.declared.Player.{Player}
 use Rattle.player.specs.declared.Played.{Played}
 use Rattle.player.specs.Player.{state_of}
-use Rattle.player.specs.Promises.{Plays}
+use Rattle.player.specs.Promises.{finished_in, Plays}
 use Rattle.reached.specs.Traces.{History}
 use Rattle.reached.specs.Players.{AcceptedBlock}
 use Rattle.reached.specs.Frames.{nth_frame}
@@ -22,8 +23,8 @@ use Rattle.reached.specs.Frames.{nth_frame}
 -- what a block that is accepted says, by its contract
 abbrev pub BlockSays : Type 0
 BlockSays =
-    (p : Player) (t : Transport) (frames : ℕ) (at : Option ℕ) (a : AcceptedBlock p t frames at) (r : Played) (x y : List Float)
-    → Plays p a.codes frames a.restart a.x a.y r x y → r.finished ≡ finished (state_of p) t frames at
+    (p : Player) (t : Transport) (frames : ℕ) (at : Option ℕ) (a : AcceptedBlock p t frames at) (r : Result Played Question) (x y : List Float)
+    → Plays p a.codes frames a.restart a.x a.y r x y → finished_in r ≡ finished (state_of p) t frames at
 
 -- the count that it is said by is that of the last frame that is written
 abbrev pub LastFrame : Type 0

@@ -1,10 +1,9 @@
 -- The limits of spans and of steps, for every player that calls have reached. Assumes nothing.
-use Rattle.std.specs.Prelude.{ℕ, ◌^◌, ◌≤◌, ◌≡◌, Bool, true, false, T, Float, Option, Some}
+use Rattle.std.specs.Prelude.{ℕ, ◌^◌, ◌≤◌, ◌≡◌, T, Float, Option, Some}
 use Rattle.std.specs.Float.Ieee.{eq}
 use Rattle.floatlaws.specs.Numbers.{f64_0}
 use Rattle.chaos.specs.Start.{step_count}
 use Rattle.chaos.specs.declared.law.Attractor.{Attractor}
-use Rattle.chaos.specs.declared.law.Attractor.TheVariants as Attractor
 use Rattle.chaos.specs.Advance.{advanced}
 use Rattle.settings.specs.declared.choices.LfoType.{LfoType}
 use Rattle.settings.specs.declared.choices.LfoType.TheVariants.{Lorenz, Rossler}

@@ -19,7 +19,7 @@ use Rattle.codes.specs.declared.PathCodes.{PathCodes}
 use Rattle.codes.specs.declared.ItemCodes.{ItemCodes}
 use Rattle.curves.specs.Given.{no_point_codes, no_path_point_codes}
 use Rattle.questions.specs.Tests.{every_kept, point_known, shape_known, path_point_known, path_known, settings_finite, point_finite, shape_finite, path_point_finite, path_finite, transport_finite, loopback_in, path_point_on_paper, path_on_paper, point_on_grid, shape_on_grid, smooth_in, transport_in}
-use Rattle.questions.specs.Questions.{Question, first_no, settings_questions, shape_questions, path_questions, bus_questions}
+use Rattle.questions.specs.Questions.{Posed, first_no, settings_questions, shape_questions, path_questions, bus_questions}
 use Rattle.questions.proofs.Laws.{and_true, three, five}
 use Rattle.questions.proofs.Facts.{passed, every_so}
 use Rattle.record.specs.Items.{transport_of}
@@ -32,7 +32,7 @@ use Rattle.record.proofs.KeptSettings.{settings_known_lem, settings_finite_lem, 
 use Rattle.record.proofs.KeptPoints.{kept_count, kept_test, point_known_lem, point_finite_lem, curve_kept}
 use Rattle.record.proofs.KeptPaths.{path_test, path_point_known_lem, path_point_finite_lem, paper_kept}
 
-goes_on : (n : ℕ) (t : Bool) (rest : List Question) → t ≡ true → first_no rest ≡ 0 → first_no ((n, t) ∷ rest) ≡ 0
+goes_on : (n : ℕ) (t : Bool) (rest : List Posed) → t ≡ true → first_no rest ≡ 0 → first_no ((n, t) ∷ rest) ≡ 0
 unfolding first_no
 goes_on n t rest e h = rw e h
 
@@ -98,7 +98,7 @@ answers i p =
 
 -- ---- 21, after all of them
 
-one_more : (k : ℕ) (t : Bool) (l r : List Question) (n : ℕ) → first_no r ≡ cond (eqb (first_no l) 0) n (first_no l)
+one_more : (k : ℕ) (t : Bool) (l r : List Posed) (n : ℕ) → first_no r ≡ cond (eqb (first_no l) 0) n (first_no l)
     → first_no ((suc k, t) ∷ r) ≡ cond (eqb (first_no ((suc k, t) ∷ l)) 0) n (first_no ((suc k, t) ∷ l))
 unfolding first_no
 one_more k true l r n h = h

@@ -5,7 +5,7 @@ use Rattle.std.specs.Float.Ieee.Scale.{finite}
 use Rattle.settings.specs.Codes.{settings_known, transport_known}
 use Rattle.codes.specs.declared.ItemCodes.{ItemCodes}
 use Rattle.questions.specs.Tests.{every, shape_known, path_known, settings_finite, shape_finite, path_finite, transport_finite, loopback_in, path_on_paper, shape_on_grid, smooth_in, transport_in}
-use Rattle.questions.specs.Questions.{Question, first_no}
+use Rattle.questions.specs.Questions.{Posed, first_no}
 use Rattle.record.specs.Items.{transport_of}
 
 -- 1. "Is each code known"
@@ -20,7 +20,7 @@ abbrev pub item_finite : ItemCodes → Bool
 item_finite i = settings_finite i.settings && shape_finite i.shape && path_finite i.path && buses_finite i.buses && transport_finite (transport_of i)
 
 -- 11 "between question 4 and number 10", and 10 "just before what is left of question 5"
-unfoldable pub item_questions : ItemCodes → List Question
+unfoldable pub item_questions : ItemCodes → List Posed
 item_questions i =
     (1, item_known i)
     ∷ (2, item_finite i)

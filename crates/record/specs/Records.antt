@@ -1,7 +1,7 @@
 -- The reader and the writer of records. Assumes nothing.
 use Rattle.std.specs.Prelude.{ℕ, cond, List, [], ◌∷◌, ◌++◌, eqb, leb, length}
 use Rattle.listlaws.specs.Over.{over}
-use Rattle.questions.specs.Questions.{Question, first_no}
+use Rattle.questions.specs.Questions.{Posed, first_no}
 use Rattle.fields.specs.Parser.{Parsed, read, fault, Parser, ◌then◌}
 use Rattle.codes.specs.declared.ItemCodes.{ItemCodes}
 use Rattle.record.specs.Reading.{item}
@@ -46,7 +46,7 @@ unfoldable pub write_record : ItemCodes → Outcome (List ℕ)
 write_record i = unless (item_answer i) (item_bytes (kept i))
 
 -- "A buffer too short for the writer gives 21, after the questions": those of writing into a buffer of `room` bytes
-unfoldable pub write_questions : ItemCodes → ℕ → List Question
+unfoldable pub write_questions : ItemCodes → ℕ → List Posed
 write_questions i room = item_questions i ++ ((21, leb (length (item_bytes (kept i))) room) ∷ [])
 
 -- the number that it answers, the length of the record that is written, and the buffer x after it

@@ -4,17 +4,18 @@
 #![tactic(auto)]
 
 ghost use Rattle.std.specs.Prelude.{◌≡◌};
+ghost use Rattle.questions.specs.Answers.{answer_of};
 ghost use Rattle.record.specs.Items.{transport_of};
 ghost use Rattle.record.specs.Questions.{buses_finite, item_known, item_finite, item_answer};
 
 use codes::{ItemCodes, TransportCodes};
 use points::POINT_BUSES;
+use questions::{Question, ask};
 
 // The transport from which an item is played.
 pub fn transport(c: ItemCodes) -> TransportCodes
     ensures { result ≡ transport_of c }
 {
-    let scale = c.scale;
     TransportCodes {
         sample_rate: 48000.0,
         tempo: c.tempo,
@@ -23,7 +24,7 @@ pub fn transport(c: ItemCodes) -> TransportCodes
         beats: 0.0,
         seconds: 0.0,
         swing: c.swing,
-        scale,
+        scale: c.scale,
     }
 }
 
@@ -38,12 +39,9 @@ fn buses_finite(buses: [f32; POINT_BUSES]) -> bool
 fn item_known(c: ItemCodes) -> bool
     ensures { result ≡ item_known c }
 {
-    let settings = c.settings;
-    let shape = c.shape;
-    let path = c.path;
-    questions::settings_known(settings)
-        & questions::shape_known(shape)
-        & questions::path_known(path)
+    questions::settings_known(c.settings)
+        & questions::shape_known(c.shape)
+        & questions::path_known(c.path)
         & questions::transport_known(transport(c))
 }
 
@@ -51,44 +49,23 @@ fn item_known(c: ItemCodes) -> bool
 fn item_finite(c: ItemCodes) -> bool
     ensures { result ≡ item_finite c }
 {
-    let settings = c.settings;
-    let shape = c.shape;
-    let path = c.path;
-    let buses = c.buses;
-    questions::settings_finite(settings)
-        & questions::shape_finite(shape)
-        & questions::path_finite(path)
-        & buses_finite(buses)
+    questions::settings_finite(c.settings)
+        & questions::shape_finite(c.shape)
+        & questions::path_finite(c.path)
+        & buses_finite(c.buses)
         & questions::transport_finite(transport(c))
 }
 
-// The questions that are put to an item, and the number of the first one that it fails: 0 where there is none.
-pub fn item_answer(c: ItemCodes) -> u8
-    ensures { result ≡ item_answer c }
+// The questions that are put to an item, and the first one that it fails.
+#[tactic(auto, unfolding(questions::specs::Questions::first_no, crate::specs::Questions::item_questions, crate::specs::Questions::item_answer))]
+pub fn item_answer(c: ItemCodes) -> Result<(), Question>
+    ensures { answer_of result ≡ item_answer c }
 {
-    let shape = c.shape;
-    let path = c.path;
-    let smooth = c.settings.smooth;
-    if !item_known(c) {
-        return 1;
-    }
-    if !item_finite(c) {
-        return 2;
-    }
-    if !questions::loopback_in(shape) {
-        return 4;
-    }
-    if !questions::path_on_paper(path) {
-        return 11;
-    }
-    if !questions::shape_on_grid(shape) {
-        return 10;
-    }
-    if !questions::smooth_in(smooth) {
-        return 5;
-    }
-    if !questions::transport_in(transport(c)) {
-        return 6;
-    }
-    0
+    ask(item_known(c), Question::Known)?;
+    ask(item_finite(c), Question::Finite)?;
+    ask(questions::loopback_in(c.shape), Question::Loopback)?;
+    ask(questions::path_on_paper(c.path), Question::Paper)?;
+    ask(questions::shape_on_grid(c.shape), Question::Grid)?;
+    ask(questions::smooth_in(c.settings.smooth), Question::Smoothing)?;
+    ask(questions::transport_in(transport(c)), Question::Transport)
 }

@@ -1,8 +1,10 @@
 -- Numbers written one behind the other, all of them or none. Assumes nothing.
-use Rattle.std.specs.Prelude.{ℕ, ◌+◌, ◌≡◌, Bool, cond, Option, Some, None, List, [], ◌∷◌, ◌++◌, map, leb, length, Float}
+use Rattle.std.specs.Prelude.{ℕ, ◌+◌, cond, Option, List, [], ◌∷◌, ◌++◌, map, length, Float}
 use Rattle.std.specs.Float.{binary32}
 use Rattle.std.specs.Float.Ieee.{to_bits}
-use Rattle.listlaws.specs.Over.{over}
+use Rattle.listlaws.specs.Write as Write
+use Rattle.listlaws.specs.Write.{Writes}
+pub use Rattle.listlaws.specs.Write.{fits}
 use Rattle.number.specs.Encoded.{encoded}
 
 -- the bytes of numbers, one behind the other
@@ -18,10 +20,6 @@ bits_of = map (to_bits binary32)
 unfoldable pub listed : List ℕ → List Float → List Float → List ℕ
 listed l x y = l ++ bits_of x ++ bits_of y
 
--- whether so many bytes fit from the place `at` on into a buffer of `len` bytes
-abbrev pub fits : ℕ → ℕ → ℕ → Bool
-fits len at count = leb (at + count) len
-
 -- The bytes of what the calls give, from the place `at` of a buffer of `len` bytes on: "Where `out` has no room for what a call gives, nothing of that call is
 -- written and the output ends there."
 unfoldable pub fitting : ℕ → ℕ → List (List ℕ) → List ℕ
@@ -29,11 +27,9 @@ fitting len at [] = []
 fitting len at (l ∷ rest) = cond (fits len at (length (bytes_of l))) (bytes_of l ++ fitting len (at + length (bytes_of l)) rest) []
 
 -- writing the numbers l at the place `at` of x, all of them or none, answers r and leaves y
-pub record WritesAll (x : List ℕ) (at : ℕ) (l : List ℕ) (r : Option ℕ) (y : List ℕ) : Type 0 where
-  pub answer : r ≡ cond (fits (length x) at (length (bytes_of l))) (Some (at + length (bytes_of l))) None
-  pub bytes : y ≡ cond (fits (length x) at (length (bytes_of l))) (over x at (bytes_of l)) x
+abbrev pub WritesAll : List ℕ → ℕ → List ℕ → Option ℕ → List ℕ → Type 0
+WritesAll x at l r y = Writes x at (bytes_of l) r y
 
 -- where there is room: the place after them, and the bytes
-pub record Puts (x : List ℕ) (at : ℕ) (l : List ℕ) (r : ℕ) (y : List ℕ) : Type 0 where
-  pub next : r ≡ at + length (bytes_of l)
-  pub bytes : y ≡ over x at (bytes_of l)
+abbrev pub Puts : List ℕ → ℕ → List ℕ → ℕ → List ℕ → Type 0
+Puts x at l r y = Write.Puts x at (bytes_of l) r y

@@ -4,7 +4,7 @@
 ghost use Rattle.std.specs.Prelude.{ℕ, ◌≡◌, ◌+◌, ◌<◌, ◌≤◌, ◌^◌, length, map};
 ghost use Rattle.std.specs.Float.Ieee.{to_bits};
 ghost use Rattle.std.specs.Float.{binary32};
-ghost use Rattle.listlaws.specs.Over.{over};
+ghost use Rattle.listlaws.specs.Write as written;
 ghost use Rattle.number.specs.Encoded.{encoded};
 ghost use Rattle.replies.specs.Replies.{bytes_of, bits_of, listed, WritesAll, Puts};
 
@@ -55,7 +55,7 @@ fn size_of<T: Written>(s: &[T]) -> usize
 // Writes `n` where there is room, and answers the place after it.
 fn put(out: &mut [u8], at: usize, n: u64) -> usize
     requires { at + length (encoded n) ≤ length out.old }
-    ensures { (result ≡ at + length (encoded n)) × (out.new ≡ over out.old at (encoded n)) }
+    ensures { written.Puts out.old at (encoded n) result out.new }
 {
     number::write(out, at, n).unwrap()
 }

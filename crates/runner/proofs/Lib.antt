@@ -1,6 +1,4 @@
-pub mod Turning
-pub mod Readings
-pub mod Replying
+pub mod Answering
 pub mod Playing
 pub mod Measuring
 pub mod Enough

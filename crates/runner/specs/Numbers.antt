@@ -2,8 +2,7 @@
 use Rattle.std.specs.Prelude.{ℕ, cond, List, [], ◌∷◌, eqb, take, Float}
 use Rattle.codes.specs.declared.TransportCodes.{TransportCodes}
 use Rattle.codes.specs.declared.RestartCodes.{RestartCodes}
-use Rattle.evaluate.specs.declared.Legs.{Legs}
-use Rattle.evaluate.specs.Values.{evaluated_shape, evaluated_path, evaluated_legs}
+use Rattle.evaluate.specs.Values.{LegsAnswer, evaluated_shape, evaluated_path, evaluated_legs}
 use Rattle.calls.specs.State.{State}
 use Rattle.calls.specs.Calls.{Call, settings, shape, path, bus, phase, block, answer, accepts, step, buffer}
 use Rattle.player.specs.Promises.{finished_by}
@@ -13,7 +12,7 @@ use Rattle.outputs.specs.Numbers.{flag_of, answer_numbers}
 use Rattle.runner.specs.Asked.{Asked, call, shape_at, path_at, legs}
 
 -- where the number is 0, "the count of legs and then their bits for tag 8"
-unfoldable pub legs_numbers : Legs → List ℕ
+unfoldable pub legs_numbers : LegsAnswer → List ℕ
 legs_numbers r = r.answer ∷ cond (eqb r.answer 0) (r.count ∷ bits_of (take r.count r.lengths)) []
 
 -- Where the number is 0, "finished for tag 5"; "accepted or refused, there follow the x_len numbers of buffer x and the y_len numbers of buffer y as the call

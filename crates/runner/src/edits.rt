@@ -1,50 +1,73 @@
 // The calls that set something: tags 0 to 3.
 ghost use Rattle.player.specs.Player.{Valid};
 ghost use Rattle.runner.specs.Asked.{settings_call, shape_call, path_call, bus_call};
-ghost use Rattle.runner.specs.Promises.{RepliesTo};
+ghost use Rattle.runner.specs.Promises.{TurnsOn};
 
-use super::Reply;
-use super::writing::edited;
 use fields::Fault;
 use player::Player;
+use run_calls::{Next, Turn, say_change};
 
 // Tag 0: the settings.
 #[tactic(auto, unfolding(crate::specs::Asked::settings_call, fields::specs::Parser::after))]
-pub fn settings_reply(run: &[u8], at: usize, p: Player) -> Result<Reply, Fault>
-    requires { Valid p }
-    ensures { RepliesTo settings_call run.now at p result }
+pub fn settings_turn(
+    run: &[u8],
+    from: Next<Player>,
+    out: &mut [u8],
+    place: usize,
+) -> Result<Turn<Player>, Fault>
+    requires { Valid from.player }
+    ensures { TurnsOn settings_call run.now from out.old place result out.new }
 {
-    let (codes, at) = runs::read_settings(run, at)?;
-    Ok(edited(player::set_settings(p, codes), at))
+    let (codes, at) = runs::read_settings(run, from.at)?;
+    let changed = player::set_settings(from.player, codes);
+    Ok(say_change(changed, Next { at, ..from }, out, place))
 }
 
 // Tag 1: the shape.
 #[tactic(auto, unfolding(crate::specs::Asked::shape_call, fields::specs::Parser::after))]
-pub fn shape_reply(run: &[u8], at: usize, p: Player) -> Result<Reply, Fault>
-    requires { Valid p }
-    ensures { RepliesTo shape_call run.now at p result }
+pub fn shape_turn(
+    run: &[u8],
+    from: Next<Player>,
+    out: &mut [u8],
+    place: usize,
+) -> Result<Turn<Player>, Fault>
+    requires { Valid from.player }
+    ensures { TurnsOn shape_call run.now from out.old place result out.new }
 {
-    let (codes, at) = runs::read_shape(run, at)?;
-    Ok(edited(player::set_shape(p, codes), at))
+    let (codes, at) = runs::read_shape(run, from.at)?;
+    let changed = player::set_shape(from.player, codes);
+    Ok(say_change(changed, Next { at, ..from }, out, place))
 }
 
 // Tag 2: the path.
 #[tactic(auto, unfolding(crate::specs::Asked::path_call, fields::specs::Parser::after))]
-pub fn path_reply(run: &[u8], at: usize, p: Player) -> Result<Reply, Fault>
-    requires { Valid p }
-    ensures { RepliesTo path_call run.now at p result }
+pub fn path_turn(
+    run: &[u8],
+    from: Next<Player>,
+    out: &mut [u8],
+    place: usize,
+) -> Result<Turn<Player>, Fault>
+    requires { Valid from.player }
+    ensures { TurnsOn path_call run.now from out.old place result out.new }
 {
-    let (codes, at) = runs::read_path(run, at)?;
-    Ok(edited(player::set_path(p, codes), at))
+    let (codes, at) = runs::read_path(run, from.at)?;
+    let changed = player::set_path(from.player, codes);
+    Ok(say_change(changed, Next { at, ..from }, out, place))
 }
 
 // Tag 3: one bus.
 #[tactic(auto, unfolding(crate::specs::Asked::bus_call, fields::specs::Parser::after))]
-pub fn bus_reply(run: &[u8], at: usize, p: Player) -> Result<Reply, Fault>
-    requires { Valid p }
-    ensures { RepliesTo bus_call run.now at p result }
+pub fn bus_turn(
+    run: &[u8],
+    from: Next<Player>,
+    out: &mut [u8],
+    place: usize,
+) -> Result<Turn<Player>, Fault>
+    requires { Valid from.player }
+    ensures { TurnsOn bus_call run.now from out.old place result out.new }
 {
-    let (bus, at) = fields::read_number(run, at)?;
+    let (bus, at) = fields::read_number(run, from.at)?;
     let (value, at) = fields::read_f32(run, at)?;
-    Ok(edited(player::set_bus(p, bus, value), at))
+    let changed = player::set_bus(from.player, bus, value);
+    Ok(say_change(changed, Next { at, ..from }, out, place))
 }

@@ -3,38 +3,36 @@ ghost use Rattle.player.specs.Player.{Valid};
 ghost use Rattle.runner.specs.Asked.{legs, legs_call};
 ghost use Rattle.runner.specs.Promises.{TurnsOn, TurnsBy};
 
-use super::Turn;
-use super::writing::{how_many, turn_of};
 use codes::PathCodes;
 use fields::Fault;
 use player::Player;
+use run_calls::{Next, Turn, say, say_number};
 
 // Evaluates the legs of a path, and writes what that gives.
-fn measure(c: PathCodes, at: usize, p: Player, out: &mut [u8], place: usize) -> Turn
-    requires { Valid p }
-    ensures { TurnsBy (legs c) at p out.old place result out.new }
+fn measure(c: PathCodes, next: Next<Player>, out: &mut [u8], place: usize) -> Turn<Player>
+    requires { Valid next.player }
+    ensures { TurnsBy (legs c) next out.old place result out.new }
 {
-    let r = evaluate::evaluate_legs(c);
-    let lengths = r.lengths;
-    let n = r.count;
-    let numbers = [r.answer as u64, n as u64];
-    let shown = how_many(r.answer);
-    let w = replies::write_lists(out, place, &numbers[..shown], &lengths[..n], &[]);
-    turn_of(w, place, at, true, p)
+    match evaluate::evaluate_legs(c) {
+        Ok(r) => {
+            let numbers = [0, r.count as u64];
+            say(out, place, &numbers, &r.lengths[..r.count], &[], Some(next))
+        }
+        Err(q) => say_number(out, place, q.number() as u64, Some(next)),
+    }
 }
 
 // Reads a path's bytes, evaluates its legs, and writes what that gives.
 #[tactic(auto, unfolding(crate::specs::Asked::legs_call, fields::specs::Parser::after))]
 pub fn legs_turn(
     run: &[u8],
-    at: usize,
-    p: Player,
+    from: Next<Player>,
     out: &mut [u8],
     place: usize,
-) -> Result<Turn, Fault>
-    requires { Valid p }
-    ensures { TurnsOn legs_call run.now at p out.old place result out.new }
+) -> Result<Turn<Player>, Fault>
+    requires { Valid from.player }
+    ensures { TurnsOn legs_call run.now from out.old place result out.new }
 {
-    let (codes, at) = runs::read_path(run, at)?;
-    Ok(measure(codes, at, p, out, place))
+    let (codes, at) = runs::read_path(run, from.at)?;
+    Ok(measure(codes, Next { at, ..from }, out, place))
 }

@@ -7,7 +7,7 @@ ghost use Rattle.runs.specs.Curves.{kept};
 use fields::Fault;
 use points::MAX_POINTS;
 
-// Reads `count` values and keeps the first 64, in the blank array.
+// Reads `count` values and keeps the first 64, in the blank array. With no heap there is no list of so many: the array has a fixed size.
 pub fn read_kept<T: Copy, F: Fn(usize) -> Result<(T, usize), Fault>>(
     at: usize,
     count: usize,

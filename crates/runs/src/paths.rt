@@ -28,7 +28,7 @@ fn read_path_point(run: &[u8], at: usize) -> Result<(PathPointCodes, usize), Fau
     Ok((point, at))
 }
 
-// Reads `count` points and keeps the first 64.
+// Reads `count` points and keeps the first 64, in an array of fixed size (no heap).
 fn read_path_points(
     run: &[u8],
     at: usize,

@@ -39,7 +39,7 @@ fn read_point(run: &[u8], at: usize) -> Result<(PointCodes, usize), Fault>
     Ok((point, at))
 }
 
-// Reads `count` points and keeps the first 64.
+// Reads `count` points and keeps the first 64, in an array of fixed size (no heap).
 fn read_points(
     run: &[u8],
     at: usize,

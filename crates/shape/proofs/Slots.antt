@@ -2,7 +2,7 @@
 use mathlib.Core.Path.{◌≡◌, refl, ap, ◌∙◌, subst}
 use mathlib.Core.Bool.{Bool, not}
 use mathlib.Core.List.{List, ◌++◌}
-use Prim.Native.Nat.{ℕ, zero, suc, ◌-◌, ◌≤◌, ◌<◌}
+use Prim.Native.Nat.{ℕ, zero, suc, ◌-◌, ◌≤◌, ◌<◌, min}
 use native.Mathlib.Nat.{le_refl}
 use native.Mathlib.Omega.{arith}
 use lib.ListN.{length, get_or, replicate, take, get_or-append}
@@ -11,7 +11,10 @@ use lib.Ieee.{lt}
 use Rattle.listlaws.specs.Tables.{padded}
 use Rattle.listlaws.proofs.LastWhere.{last_le, last_same}
 use Rattle.listlaws.proofs.Inserted.{length_inserted, opened_padded}
+use Rattle.shape.specs.declared.Shape.{Shape}
 use Rattle.shape.specs.declared.sorting.Point.{Point}
+use Rattle.shape.specs.Shapes.{shape_of}
+use Rattle.shape.specs.Laws.{ShapeOfFirst}
 use Rattle.shape.specs.Points.{blank, no_point, clamped_point, slot_of, insert_point, sorted_points, inserted_at, sorted_array}
 
 abbrev pub stops : List Point → Point → ℕ → Bool
@@ -56,3 +59,11 @@ first_sorted points m (suc n) h = rw (first_sorted points m n (omega arith), get
 pub sort_first : (points : List Point) (n : ℕ) → n ≤ length points → sorted_array (take n points) (length (take n points)) ≡ sorted_array points n
 unfolding sorted_array
 sort_first points n h = rw (length-take-le n points h, first_sorted points n n (le_refl n))
+
+pub shape_first : ShapeOfFirst
+unfolding shape_of
+shape_first points n h =
+    let m = min n 64 in
+    let l = length-take-le m points h in
+    let kept : min m 64 ≡ m = omega arith in
+    let e = rw l at (sort_first points m h) in (rw (l, kept, e), λ (s : Shape). rw (l, kept, e))

@@ -1,5 +1,5 @@
--- What document 01 says of a shape's points, and of the segments of every shape that is accepted. Proved in proofs/Sorted.antt, proofs/Ranges.antt, proofs/Modulation.antt and proofs/Accepted.antt. Assumes nothing.
-use Rattle.std.specs.Prelude.{ℕ, ◌≤◌, ◌<◌, ◌≡◌, Bool, not, T, get_or, Float}
+-- What document 01 says of a shape's points, and of the segments of every shape that is accepted. Proved in proofs/Sorted.antt, proofs/Slots.antt, proofs/Ranges.antt, proofs/Modulation.antt and proofs/Accepted.antt. Assumes nothing.
+use Rattle.std.specs.Prelude.{ℕ, ◌≤◌, ◌<◌, ◌≡◌, min, Bool, not, T, length, take, get_or, Float}
 use mathlib.Core.List.{List, Perm}
 use Rattle.std.specs.Float.{nan}
 use Rattle.std.specs.Float.Ieee.{le, is_nan}
@@ -9,9 +9,10 @@ use Rattle.points.specs.declared.Coordinates.{Coordinates}
 use Rattle.points.specs.Arrays.{Ascends}
 use Rattle.points.specs.Modulation.{FiniteBuses}
 use Rattle.shape_segments.specs.Laws.{SegmentHolds, SegmentKept, SegmentRust}
+use Rattle.shape.specs.declared.Shape.{Shape}
 use Rattle.shape.specs.declared.sorting.Point.{Point}
 use Rattle.shape.specs.Points.{no_point, clamped_point, sorted_points, sorted_array, clamped_points, same_x, Numbers, InRange, FinitePoint}
-use Rattle.shape.specs.Shapes.{coordinates_of, modulated_of, NumbersX, NumbersY}
+use Rattle.shape.specs.Shapes.{new_shape, with_points, coordinates_of, modulated_of, NumbersX, NumbersY}
 
 -- ---- "Shape points are clamped, then sorted by x; equal x keep their order"
 
@@ -35,6 +36,13 @@ SortedStable = (points : List Point) (x : Float) (n : ℕ) → select (same_x x)
 -- so the xs of a shape's kept points ascend
 abbrev pub DrawnAscends : Type 0
 DrawnAscends = (points : List Point) (n : ℕ) → ((k : ℕ) → k < n → Numbers (get_or points k no_point)) → Ascends (coordinates_of (sorted_array points n) n).xs n
+
+-- the first of more points, as many as are kept of n, are as good as all of them
+abbrev pub ShapeOfFirst : Type 0
+ShapeOfFirst =
+    (points : List Point) (n : ℕ) → min n 64 ≤ length points
+    → let first = take (min n 64) points in
+    (new_shape first (length first) ≡ new_shape points n) × ((s : Shape) → with_points s first (length first) ≡ with_points s points n)
 
 -- ---- "modulated x ascend within 0 to 1"; and modulated y lie within 0 to 1
 

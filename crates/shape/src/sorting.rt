@@ -63,7 +63,8 @@ impl Point {
     }
 }
 
-// Puts `p` among the first `n` points: after those at or before it. Each later one moves up a place.
+// Puts `p` among the first `n` points: after those at or before it. Each later one moves up a place. A slice of those points has
+// no room for one more, and of a slice with room its last place would have to be left out: so the count stands beside the array.
 fn insert(points: &mut [Point; MAX_POINTS], n: usize, p: Point)
     requires { n < 64 }
     ensures { points.new ≡ inserted_at points.old n p }

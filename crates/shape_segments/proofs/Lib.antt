@@ -1,3 +1,4 @@
 pub mod Cases
 pub mod KeptSegment
 pub mod RustSegment
+pub mod First

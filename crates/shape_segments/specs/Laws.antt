@@ -1,5 +1,5 @@
--- What holds of a search among n points. Proved in proofs/KeptSegment.antt and proofs/RustSegment.antt where the xs ascend, as those of an accepted shape do wherever the buses move them (`ShapeAscends` of crate shape). Assumes nothing.
-use Rattle.std.specs.Prelude.{ℕ, ◌≡◌, Bool, not, List, T, Float}
+-- What holds of a search among n points. Proved in proofs/First.antt, and in proofs/KeptSegment.antt and proofs/RustSegment.antt where the xs ascend, as those of an accepted shape do wherever the buses move them (`ShapeAscends` of crate shape). Assumes nothing.
+use Rattle.std.specs.Prelude.{ℕ, ◌≡◌, ◌≤◌, Bool, not, List, T, length, take, Float}
 use Rattle.std.specs.Float.Ieee.{is_nan}
 use Rattle.std.specs.Float.Ieee.Scale.{finite}
 use Rattle.points.specs.Arrays.{Ascends}
@@ -21,6 +21,10 @@ module _ (xs ys es : List Float) (steps : List Bool) (n : ℕ) where
 -- each of them where the xs ascend
 abbrev pub OfAscending : (List Float → List Float → List Float → List Bool → ℕ → Type 0) → Type 0
 OfAscending Law = (xs ys es : List Float) (steps : List Bool) (n : ℕ) → Ascends xs n → Law xs ys es steps n
+
+-- the first n of more points are as good as all of them
+abbrev pub SegmentOfFirst : Type 0
+SegmentOfFirst = (xs ys es : List Float) (steps : List Bool) (n : ℕ) (x : Float) → n ≤ length xs → drawn_segment (take n xs) ys es steps (length (take n xs)) x ≡ drawn_segment xs ys es steps n x
 
 -- "After a curve edit or a bus move the kept segment is void": the void segment holds nothing, so the next frame searches
 abbrev pub SegmentVoid : Type 0

@@ -1,2 +1,3 @@
 pub mod Segments
+pub mod View
 pub mod Laws

@@ -1,10 +1,9 @@
 // The port of lfo/shape.rs, the segments of its drawn shape, ready to evaluate.
 #![tactic(auto)]
 
-ghost use Rattle.std.specs.Prelude.{◌≡◌, ◌≤◌};
-ghost use Rattle.shape_segments.specs.Segments.{empty_segment, hold_of, between_of, contains_of, u_of, eval_of, curve_of, segment_at, drawn_segment};
-
-use points::MAX_POINTS;
+ghost use Rattle.std.specs.Prelude.{◌≡◌, ◌≤◌, ◌<◌, length};
+ghost use Rattle.shape_segments.specs.Segments.{empty_segment, hold_of, between_of, contains_of, u_of, eval_of, curve_of};
+ghost use Rattle.shape_segments.specs.View.{EachHasAll, segment_after, segment_of};
 
 // One segment of a drawn shape: `y = y0 + dy × u / (u + (1 − u) × e)` with `u = (x − x0) × inv_w`, valid for `lo ≤ x < hi`.
 #[derive(Clone, Copy)]
@@ -93,50 +92,46 @@ pub fn curve(u: f32, y0: f32, dy: f32, e: f32) -> f32
     y0 + dy * (u / (u + (1.0 - u) * e))
 }
 
-// The segment that holds `x`, of the `n` points at `xs`, `ys` with the strengths `es`; after a point of `steps` it is a step.
-// The arrays are lent, so that a search copies no shape.
-pub fn drawn_segment(
-    xs: &[f32; MAX_POINTS],
-    ys: &[f32; MAX_POINTS],
-    es: &[f32; MAX_POINTS],
-    steps: &[bool; MAX_POINTS],
-    n: usize,
-    x: f32,
-) -> Segment
-    requires { n ≤ 64 }
-    ensures { result ≡ drawn_segment xs.now ys.now es.now steps.now n x }
-{
-    if n == 0 {
-        return Segment::hold(extrema::neg_infinity(), extrema::infinity(), 0.0);
-    }
-    let i = points::partition_point(xs, n, x);
-    segment_at(xs, ys, es, steps, n, i)
+// The points of a drawn shape, lent, so that a search copies no shape: as many as `xs` has, each with the strength of the segment
+// after it, and whether that is a step.
+#[derive(Clone, Copy)]
+pub struct DrawnView<'a> {
+    pub xs: &'a [f32],
+    pub ys: &'a [f32],
+    pub es: &'a [f32],
+    pub steps: &'a [bool],
 }
 
-// The segment after the first `i` of the `n` points.
-fn segment_at(
-    xs: &[f32; MAX_POINTS],
-    ys: &[f32; MAX_POINTS],
-    es: &[f32; MAX_POINTS],
-    steps: &[bool; MAX_POINTS],
-    n: usize,
-    i: usize,
-) -> Segment
-    requires { (i ≤ n) × (n ≤ 64) }
-    ensures { result ≡ segment_at xs.now ys.now es.now steps.now n i }
-{
-    if i == 0 {
-        return Segment::hold(extrema::neg_infinity(), xs[0], ys[0]);
+impl DrawnView<'_> {
+    // The segment that holds `x`.
+    pub fn segment(self, x: f32) -> Segment
+        requires { EachHasAll self }
+        ensures { result ≡ segment_of self.entry x }
+    {
+        if self.xs.is_empty() {
+            return Segment::hold(extrema::neg_infinity(), extrema::infinity(), 0.0);
+        }
+        self.segment_at(points::partition_point(self.xs, x))
     }
-    let k = i - 1;
-    let x0 = xs[k];
-    let y0 = ys[k];
-    if i == n {
-        return Segment::hold(x0, extrema::infinity(), y0);
+
+    // The segment after the first `i` of the points.
+    fn segment_at(self, i: usize) -> Segment
+        requires { EachHasAll self × (0 < length self.xs.now) × (i ≤ length self.xs.now) }
+        ensures { result ≡ segment_after self.entry i }
+    {
+        if i == 0 {
+            return Segment::hold(extrema::neg_infinity(), self.xs[0], self.ys[0]);
+        }
+        let k = i - 1;
+        let x0 = self.xs[k];
+        let y0 = self.ys[k];
+        if i == self.xs.len() {
+            return Segment::hold(x0, extrema::infinity(), y0);
+        }
+        let x1 = self.xs[i];
+        if self.steps[k] {
+            return Segment::hold(x0, x1, y0);
+        }
+        Segment::between(x0, x1, y0, self.ys[i], self.es[k])
     }
-    let x1 = xs[i];
-    if steps[k] {
-        return Segment::hold(x0, x1, y0);
-    }
-    Segment::between(x0, x1, y0, ys[i], es[k])
 }

@@ -6,6 +6,7 @@
 use codes::{
     RateCodes, RestartCodes, ScaleCodes, SettingsCodes, SmoothCodes, SpanCodes, TransportCodes,
 };
+use questions::Question;
 use std::io;
 
 const FRAMES: usize = 4;
@@ -71,36 +72,27 @@ fn transport() -> TransportCodes {
     }
 }
 
-// Whether an answer is a refusal; if so, prints it, with words on standard error.
-fn refused<P: Print + Eprint>(rt: &P, answer: u8) -> io::Result<bool> {
-    if answer == 0 {
-        return Ok(false);
-    }
+// Prints the number of the question that refuses a call, with words on standard error.
+fn show_refusal<P: Print + Eprint>(rt: &P, question: Question) -> io::Result<()> {
     let mut out = [0; ROOM];
-    let end = text::write_number(&mut out, 0, answer as u64).unwrap_or(0);
+    let end = text::write_number(&mut out, 0, question.number() as u64).unwrap_or(0);
     rt.write_all(&out[..end.min(ROOM)])?;
-    eprintln!(rt; "sheet: refused; docs/RULES.md has the question of that number")?;
-    Ok(true)
+    eprintln!(rt; "sheet: refused; docs/RULES.md has the question of that number")
+}
+
+// Plays the item's frames into x and y.
+fn play(x: &mut [f32; FRAMES], y: &mut [f32; FRAMES]) -> Result<(), Question> {
+    let p = player::make(settings(), 0)?;
+    let restart = RestartCodes { code: 0, frame: 0 };
+    player::play(p, transport(), FRAMES as u64, restart, x, y)?;
+    Ok(())
 }
 
 fn main(rt: HostRuntime) -> io::Result<()> {
-    let made = player::make(settings(), 0);
-    if refused(&rt, made.answer)? {
-        return Ok(());
-    }
-    let restart = RestartCodes { code: 0, frame: 0 };
     let mut x = [0.0; FRAMES];
     let mut y = [0.0; FRAMES];
-    let played = player::play(
-        made.player,
-        transport(),
-        FRAMES as u64,
-        restart,
-        &mut x,
-        &mut y,
-    );
-    if refused(&rt, played.answer)? {
-        return Ok(());
+    match play(&mut x, &mut y) {
+        Ok(()) => show_sheet(&rt, &x, &y),
+        Err(question) => show_refusal(&rt, question),
     }
-    show_sheet(&rt, &x, &y)
 }

@@ -13,15 +13,9 @@ pub fn moved_on(c: TransportCodes, frames: u64) -> TransportCodes
         return c;
     };
     let next = t.advance(frames);
-    let scale = c.scale;
     TransportCodes {
-        sample_rate: c.sample_rate,
-        tempo: c.tempo,
-        beats_per_bar: c.beats_per_bar,
-        playing: c.playing,
         beats: next.beats,
         seconds: next.seconds,
-        swing: c.swing,
-        scale,
+        ..c
     }
 }

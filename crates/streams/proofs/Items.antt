@@ -10,7 +10,7 @@ use lib.Dec.{eqb, ltb}
 use lib.Ieee.{Float}
 use Rattle.number.specs.Read as Read
 use Rattle.number.specs.Read.{leading, read_from, read_at}
-use Rattle.questions.specs.Questions.{Question, first_no}
+use Rattle.questions.specs.Questions.{Posed, first_no}
 use Rattle.fields.specs.Parser.{Parser, read, fault, cut_short, after, ◌then◌, row}
 use Rattle.fields.specs.Fields.{below}
 use Rattle.streams.specs.Streams.{Streams}
@@ -114,11 +114,11 @@ item_stream =
 
 -- ---- no question has the number 12
 
-below12 : List Question → Bool
+below12 : List Posed → Bool
 below12 [] = true
 below12 (q ∷ l) = ltb q.0 12 && below12 l
 
-first_below : (l : List Question) → below12 l ≡ true → first_no l < 12
+first_below : (l : List Posed) → below12 l ≡ true → first_no l < 12
 unfolding below12 first_no
 first_below [] e = omega arith
 first_below (q ∷ l) e = by_test q.1 (ltb q.0 12) refl (first_below l) e

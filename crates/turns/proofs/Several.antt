@@ -18,18 +18,18 @@ use Rattle.fields.specs.Parser.{Parsed, read, fault, cut_short, bad_number}
 use Rattle.codes.specs.declared.ItemCodes.{ItemCodes}
 use Rattle.record.specs.Records.{accepted_item}
 use Rattle.streams.proofs.Items.{accepted_ahead, accepted_none}
-use Rattle.player.specs.Player.{Valid}
 use Rattle.sittings.specs.declared.Event.{Event}
 use Rattle.sittings.specs.declared.Event.TheVariants.{Block, Restart, Bus, End}
-use Rattle.turns.specs.declared.Progress.{Progress}
 use Rattle.turns.specs.declared.Sitting.{Sitting}
+use Rattle.turns.specs.declared.Sitting.TheVariants.{Opening, Playing, Closing, Stuck, NoMore}
+use Rattle.std.specs.Prelude.{None}
 use Rattle.turns.specs.declared.Turned.{Turned}
 use Rattle.turns.specs.declared.Step.{Step}
 use Rattle.sittings.specs.Events.{event}
 use Rattle.sittings.specs.Courses.{Course, block_of}
 use Rattle.sittings.specs.Windows.{BeingRead, the_item, the_event, most_of, fault_line, Stage, opening, playing, closing, stuck, Turn, wants, went, fault_turn, event_turn, read_turn, playing_turn, closing_turn, stuck_turn, item_turn, turn, Goes}
 use Rattle.sittings.specs.Windows as Windows
-use Rattle.turns.specs.Turns.{stage_at, stage_of, is_over, turn_room, Going, OneTurn, Running, SomeTurns}
+use Rattle.turns.specs.Turns.{stage_of, index_of, ValidSitting, is_over, Went, OneTurn, Running, SomeTurns}
 use Rattle.sittings.proofs.Reading.{event_ahead}
 use Rattle.sittings.proofs.Pieces.{goes_none, goes_on, turns_right}
 
@@ -107,8 +107,8 @@ pub record Ran (t : Sitting) (l out₀ : List ℕ) (s : Sitting) (at place : ℕ
   pub room : length text ≤ length out₀
   pub inside : at ≤ length l
   pub ahead : 0 < place → 0 < at
-  pub counts : s.index + length (drop at l) ≤ t.index + length l
-  pub valid : Valid s.player
+  pub counts : index_of s + length (drop at l) ≤ index_of t + length l
+  pub valid : ValidSitting s
 
 module _ {t : Sitting} {l out₀ : List ℕ} (g : Running t l out₀) where
   pub ran_first : Ran t l out₀ t 0 0 out₀
@@ -128,28 +128,6 @@ module _ {t : Sitting} {l out₀ : List ℕ} (g : Running t l out₀) where
   module _ {s : Sitting} {at place : ℕ} {out : List ℕ} (n : Ran t l out₀ s at place out) where
     pub ran_long : length out ≡ length out₀
     ran_long = rw n.bytes (length_over out₀ 0 n.text (omega (arith, n.room)))
-
-    pub ran_place : place ≤ length out
-    ran_place = omega (arith, ran_long, n.place_is, n.room)
-
-    pub ran_going : at < length l → turn_room + place ≤ length out → Going s out place
-    ran_going some room = record { valid = n.valid; room = omega arith; few = omega (arith, n.counts, g.few, length-drop at l) }
-
-    -- the buffer may be too short for another turn
-    pub ran_full : length out < turn_room + place → SomeTurns t l out₀ (record { sitting = s; taken = at; written = place; full = true }) out
-    ran_full short =
-        record {
-          text = n.text;
-          goes = n.goes;
-          bytes = n.bytes;
-          written = n.place_is;
-          room = n.room;
-          inside = n.inside;
-          ahead = λ _. n.ahead (omega (arith, g.room, ran_long));
-          stops = λ e. absurd (true≢false e);
-          counts = n.counts;
-          valid = n.valid;
-        }
 
     stopped : (stage_of s ≡ Windows.no_more) ⊎ (turn (stage_of s) (drop at l) ≡ wants) → SomeTurns t l out₀ (record { sitting = s; taken = at; written = place; full = false }) out
     stopped why =
@@ -171,38 +149,32 @@ module _ {t : Sitting} {l out₀ : List ℕ} (g : Running t l out₀) where
         let none : drop at l ≡ [] = drop_of_length-le l h in
         stopped (rw none (at_end (stage_of s)))
 
-    module _ {r : Turned} {out' : List ℕ} (w : OneTurn s (turn (stage_of s) (drop at l)) out place r out') where
-      pub ran_waits : r.wants ≡ true → SomeTurns t l out₀ (record { sitting = r.sitting; taken = at; written = place; full = false }) out'
-      ran_waits e =
-          let same = w.waits e in
-          let kept : out' ≡ out = w.bytes ∙ ap (over out place) same.1 ∙ over_none out place in
-          let is : turn (stage_of s) (drop at l) ≡ wants = rw e at w.turn_is in
-          rw (same.0, kept) (stopped (inr is))
+    pub ran_waits : {out' : List ℕ} → OneTurn (index_of s) (turn (stage_of s) (drop at l)) out place None out'
+        → SomeTurns t l out₀ (record { sitting = s; taken = at; written = place; full = false }) out'
+    ran_waits w = rw w.1 (stopped (inr w.0))
 
-      went_so : r.wants ≡ false → turn (stage_of s) (drop at l) ≡ went w.text r.taken (stage_of r.sitting)
-      went_so e = rw e at w.turn_is
-
-      took : r.wants ≡ false → 0 < length (drop at l) → 0 < r.taken
+    module _ {r : Turned} {out' : List ℕ} (w : Went (index_of s) (turn (stage_of s) (drop at l)) out place r out') where
+      took : 0 < length (drop at l) → 0 < r.taken
       unfolding Ahead
-      took e = subst (Ahead (drop at l)) (went_so e) (ahead (stage_of s) (drop at l))
+      took = subst (Ahead (drop at l)) w.turn_is (ahead (stage_of s) (drop at l))
 
-      right : r.wants ≡ false → Goes (stage_of s) (drop at l) w.text (stage_of r.sitting) (drop r.taken (drop at l)) × (r.taken ≤ length (drop at l))
-      right e = turns_right (stage_of s) (drop at l) w.text r.taken (stage_of r.sitting) (went_so e)
+      right : Goes (stage_of s) (drop at l) w.text (stage_of r.sitting) (drop r.taken (drop at l)) × (r.taken ≤ length (drop at l))
+      right = turns_right (stage_of s) (drop at l) w.text r.taken (stage_of r.sitting) w.turn_is
 
-      pub ran_ahead : at < length l → r.wants ≡ false → (0 < r.taken) × (at + r.taken ≤ length l)
-      ran_ahead some e =
-          let in_l = (right e).1 in
-          (took e (omega (arith, length-drop at l)), omega (arith, length-drop at l, n.inside))
+      pub ran_ahead : at < length l → (0 < r.taken) × (at + r.taken ≤ length l)
+      ran_ahead some =
+          let in_l = right.1 in
+          (took (omega (arith, length-drop at l)), omega (arith, length-drop at l, n.inside))
 
-      pub ran_on : at < length l → r.wants ≡ false → Ran t l out₀ r.sitting (at + r.taken) r.place out'
-      ran_on some e =
-          let far = ran_ahead some e in
+      pub ran_on : at < length l → Ran t l out₀ r.sitting (at + r.taken) r.place out'
+      ran_on some =
+          let far = ran_ahead some in
           let left : drop r.taken (drop at l) ≡ drop (at + r.taken) l = drop-drop r.taken at l in
           let fit : 0 + length n.text + length w.text ≤ length out₀ = omega (arith, w.room, n.place_is, ran_long) in
           let start : place ≡ 0 + length n.text = omega (arith, n.place_is) in
           record {
             text = n.text ++ w.text;
-            goes = rw left at (goes_on n.goes (right e).0);
+            goes = rw left at (goes_on n.goes right.0);
             bytes = w.bytes ∙ rw (n.bytes, start) (over_over out₀ 0 n.text w.text fit);
             place_is = omega (arith, w.place_is, n.place_is, length-append n.text w.text);
             room = omega (arith, fit, length-append n.text w.text);
@@ -213,23 +185,21 @@ module _ {t : Sitting} {l out₀ : List ℕ} (g : Running t l out₀) where
           }
 
 -- the part of a slice from a place on is what is left from there on
-pub of_part : (s : Sitting) (l : List ℕ) (at : ℕ) {out : List ℕ} {place : ℕ} {r : Turned} {out' : List ℕ}
-    → OneTurn s (turn (stage_of s) (take (length l - at) (drop at l))) out place r out' → OneTurn s (turn (stage_of s) (drop at l)) out place r out'
-of_part s l at w = let e = take_all (length l - at) (drop at l) (omega (arith, length-drop at l)) in rw e at w
+pub part : (l : List ℕ) (at : ℕ) → take (length l - at) (drop at l) ≡ drop at l
+part l at = take_all (length l - at) (drop at l) (omega (arith, length-drop at l))
 
 -- a sitting that is not over wants more bytes where some turns stop with room left
-pub goes_wanting : {t : Sitting} {l out : List ℕ} {r : Step} {out' : List ℕ} → SomeTurns t l out r out' → r.full ≡ false → is_over r.sitting.progress ≡ false
+pub goes_wanting : {t : Sitting} {l out : List ℕ} {r : Step} {out' : List ℕ} → SomeTurns t l out r out' → r.full ≡ false → is_over r.sitting ≡ false
     → turn (stage_of r.sitting) (drop r.taken l) ≡ wants
 goes_wanting {r = r} s e goes = by_stop (s.stops e)
   where
-    by_progress : (p : Progress) (t : Sitting) → is_over p ≡ false → stage_at p t ≡ Windows.no_more → ⊥
-    by_progress Progress.Opening t e z = let w : ◌≡◌ {A = ℕ} 0 1 = cc in omega arith
-    by_progress Progress.Playing t e z = let w : ◌≡◌ {A = ℕ} 0 1 = cc in omega arith
-    by_progress Progress.Closing t e z = let w : ◌≡◌ {A = ℕ} 0 1 = cc in omega arith
-    by_progress Progress.StuckItem t e z = let w : ◌≡◌ {A = ℕ} 0 1 = cc in omega arith
-    by_progress Progress.StuckEvent t e z = let w : ◌≡◌ {A = ℕ} 0 1 = cc in omega arith
-    by_progress Progress.NoMore t e z = true≢false e
+    by_stage : (t : Sitting) → is_over t ≡ false → stage_of t ≡ Windows.no_more → ⊥
+    by_stage Opening e z = let w : ◌≡◌ {A = ℕ} 0 1 = cc in omega arith
+    by_stage (Playing p) e z = let w : ◌≡◌ {A = ℕ} 0 1 = cc in omega arith
+    by_stage (Closing index) e z = let w : ◌≡◌ {A = ℕ} 0 1 = cc in omega arith
+    by_stage (Stuck part) e z = let w : ◌≡◌ {A = ℕ} 0 1 = cc in omega arith
+    by_stage NoMore e z = true≢false e
 
     by_stop : {q : Type 0} → (stage_of r.sitting ≡ Windows.no_more) ⊎ q → q
-    by_stop (inl z) = absurd (by_progress r.sitting.progress r.sitting goes z)
+    by_stop (inl z) = absurd (by_stage r.sitting goes z)
     by_stop (inr w) = w

@@ -1,60 +1,72 @@
 -- What the code promises of a sitting that goes in by value and comes back. Assumes nothing.
-use Rattle.std.specs.Prelude.{ℕ, suc, ◌+◌, ◌≤◌, ◌<◌, ◌^◌, ◌≡◌, Bool, true, false, cond, List, [], ◌⊎◌, length, drop, Option, Some, None}
+use Rattle.std.specs.Prelude.{ℕ, suc, ◌+◌, ◌≤◌, ◌<◌, ◌^◌, ◌≡◌, Bool, true, false, List, ◌⊎◌, length, drop, Option, Some, None}
 use Rattle.listlaws.specs.Over.{over}
 use Rattle.codes.specs.declared.TransportCodes.{TransportCodes}
-use Rattle.codes.specs.declared.RestartCodes.{RestartCodes}
 use Rattle.player.specs.declared.Player.{Player}
 use Rattle.player.specs.Player.{state_of, Valid}
-use Rattle.turns.specs.declared.Progress.{Progress}
+use Rattle.turns.specs.declared.Playback.{Playback}
+use Rattle.turns.specs.declared.Part.{Part}
+use Rattle.turns.specs.declared.Part.TheVariants.{Item, Event}
 use Rattle.turns.specs.declared.Sitting.{Sitting}
+use Rattle.turns.specs.declared.Sitting.TheVariants.{Opening, Playing, Closing, Stuck, NoMore}
 use Rattle.turns.specs.declared.Turned.{Turned}
 use Rattle.turns.specs.declared.Step.{Step}
-use Rattle.sittings.specs.Courses.{Course, no_restart}
+use Rattle.sittings.specs.Courses.{Course, no_restart, restart_at}
 use Rattle.sittings.specs.Windows.{BeingRead, the_item, the_event, Stage, opening, playing, closing, stuck, Turn, wants, went, turn, Goes}
 use Rattle.sittings.specs.Windows as Windows
 
-abbrev pub course_of : Sitting → Course
-course_of t = record { state = state_of t.player; transport = t.transport; waiting = t.waiting; index = t.index }
+abbrev pub course_of : Playback → Course
+course_of p = record { state = state_of p.player; transport = p.transport; waiting = p.waiting; index = p.index }
 
 -- before the first event
-abbrev pub start_of : Player → TransportCodes → Course
-start_of player transport = record { state = state_of player; transport = transport; waiting = no_restart; index = 0 }
+abbrev pub first_playback : Player → TransportCodes → Playback
+first_playback player transport = record { player = player; transport = transport; waiting = no_restart; index = 0 }
 
-abbrev pub stage_at : Progress → Sitting → Stage
-stage_at Progress.Opening t = opening
-stage_at Progress.Playing t = playing (course_of t)
-stage_at Progress.Closing t = closing t.index
-stage_at Progress.StuckItem t = stuck the_item
-stage_at Progress.StuckEvent t = stuck (the_event t.index)
-stage_at Progress.NoMore t = Windows.no_more
-
-abbrev pub stage_of : Sitting → Stage
-stage_of t = stage_at t.progress t
-
-abbrev pub is_over : Progress → Bool
-is_over Progress.Opening = false
-is_over Progress.Playing = false
-is_over Progress.Closing = false
-is_over Progress.StuckItem = false
-is_over Progress.StuckEvent = false
-is_over Progress.NoMore = true
-
--- what is being read, the item or an event; and how far a sitting is in a number of it that is too long
-abbrev pub reading_of : Bool → Sitting → BeingRead
-reading_of true t = the_item
-reading_of false t = the_event t.index
-
-abbrev pub stuck_progress : Bool → Progress
-stuck_progress true = Progress.StuckItem
-stuck_progress false = Progress.StuckEvent
-
--- the same, come to another place
-abbrev pub with_progress : Sitting → Progress → Sitting
-with_progress t progress = record { progress = progress; player = t.player; transport = t.transport; waiting = t.waiting; index = t.index }
+-- a restart waits for the next block
+abbrev pub restarted : Playback → ℕ → Playback
+restarted p frame = record { player = p.player; transport = p.transport; waiting = restart_at frame; index = p.index }
 
 -- before the next event
-abbrev pub next_sitting : Sitting → Player → TransportCodes → RestartCodes → Sitting
-next_sitting t player transport waiting = record { progress = Progress.Playing; player = player; transport = transport; waiting = waiting; index = t.index + 1 }
+abbrev pub next_sitting : Playback → Sitting
+next_sitting p = Playing (record { player = p.player; transport = p.transport; waiting = p.waiting; index = p.index + 1 })
+
+abbrev pub being_read : Part → BeingRead
+being_read Item = the_item
+being_read (Event index) = the_event index
+
+abbrev pub stage_of : Sitting → Stage
+stage_of Opening = opening
+stage_of (Playing p) = playing (course_of p)
+stage_of (Closing index) = closing index
+stage_of (Stuck part) = stuck (being_read part)
+stage_of NoMore = Windows.no_more
+
+-- the index of the event that is read or comes next, 0 where there is none
+abbrev pub index_in : Part → ℕ
+index_in Item = 0
+index_in (Event index) = index
+
+abbrev pub index_of : Sitting → ℕ
+index_of Opening = 0
+index_of (Playing p) = p.index
+index_of (Closing index) = index
+index_of (Stuck part) = index_in part
+index_of NoMore = 0
+
+-- a sitting's player, where it has one, is one that calls have reached
+abbrev pub ValidSitting : Sitting → Type 0
+ValidSitting Opening = Unit {0}
+ValidSitting (Playing p) = Valid p.player
+ValidSitting (Closing index) = Unit {0}
+ValidSitting (Stuck part) = Unit {0}
+ValidSitting NoMore = Unit {0}
+
+abbrev pub is_over : Sitting → Bool
+is_over Opening = false
+is_over (Playing p) = false
+is_over (Closing index) = false
+is_over (Stuck part) = false
+is_over NoMore = true
 
 abbrev pub place_after : Option ℕ → ℕ → ℕ
 place_after (Some next) place = next
@@ -66,21 +78,24 @@ turn_room = 159744
 
 -- what a turn asks: a player, room behind `place`, and that the events can be counted
 pub record Going (t : Sitting) (out : List ℕ) (place : ℕ) : Type 0 where
-  pub valid : Valid t.player
+  pub valid : ValidSitting t
   pub room : place + turn_room ≤ length out
-  pub few : suc t.index < 2 ^ 64
+  pub few : suc (index_of t) < 2 ^ 64
 
--- From the sitting t the code makes this turn: r says so, and its text stands in the buffer from `place` on.
-pub record OneTurn (t : Sitting) (made : Turn) (out : List ℕ) (place : ℕ) (r : Turned) (out' : List ℕ) : Type 0 where
+-- From a sitting at the event `index` the code goes on by this turn: r says so, and its text stands in the buffer from `place` on.
+pub record Went (index : ℕ) (made : Turn) (out : List ℕ) (place : ℕ) (r : Turned) (out' : List ℕ) : Type 0 where
   pub text : List ℕ
-  pub turn_is : made ≡ cond r.wants wants (went text r.taken (stage_of r.sitting))
+  pub turn_is : made ≡ went text r.taken (stage_of r.sitting)
   pub bytes : out' ≡ over out place text
   pub place_is : r.place ≡ place + length text
   pub room : place + length text ≤ length out
-  -- where more bytes are wanted, nothing has changed
-  pub waits : r.wants ≡ true → (r.sitting ≡ t) × (text ≡ [])
-  pub counts : r.sitting.index ≤ suc t.index
-  pub valid : Valid r.sitting.player
+  pub counts : index_of r.sitting ≤ suc index
+  pub valid : ValidSitting r.sitting
+
+-- From a sitting at the event `index` the code makes this turn: more bytes are wanted, and nothing has changed; or it goes on.
+abbrev pub OneTurn : ℕ → Turn → List ℕ → ℕ → Option Turned → List ℕ → Type 0
+OneTurn index made out place None out' = (made ≡ wants) × (out' ≡ out)
+OneTurn index made out place (Some r) out' = Went index made out place r out'
 
 -- After some turns, from the sitting t with the bytes l: what was printed stands in the buffer, and the rest of the bytes is still to be read.
 pub record SomeTurns (t : Sitting) (l out : List ℕ) (r : Step) (out' : List ℕ) : Type 0 where
@@ -93,11 +108,11 @@ pub record SomeTurns (t : Sitting) (l out : List ℕ) (r : Step) (out' : List �
   pub ahead : r.full ≡ true → 0 < r.taken
   -- it stops where the buffer may be too short for the next turn, where nothing more is printed, or where more bytes are wanted
   pub stops : r.full ≡ false → (stage_of r.sitting ≡ Windows.no_more) ⊎ (turn (stage_of r.sitting) (drop r.taken l) ≡ wants)
-  pub counts : r.sitting.index + length (drop r.taken l) ≤ t.index + length l
-  pub valid : Valid r.sitting.player
+  pub counts : index_of r.sitting + length (drop r.taken l) ≤ index_of t + length l
+  pub valid : ValidSitting r.sitting
 
 -- what some turns ask: a player, a buffer for one turn at least, and that the events can be counted
 pub record Running (t : Sitting) (l out : List ℕ) : Type 0 where
-  pub valid : Valid t.player
+  pub valid : ValidSitting t
   pub room : turn_room ≤ length out
-  pub few : t.index + length l + 1 < 2 ^ 64
+  pub few : index_of t + length l + 1 < 2 ^ 64

@@ -6,6 +6,7 @@
 #![tactic(auto)]
 
 mod beginning;
+mod parts;
 mod steps;
 
 pub use beginning::{begin, is_over};
@@ -13,25 +14,9 @@ use codes::{RestartCodes, TransportCodes};
 use player::Player;
 pub use steps::{last_text, take_turns};
 
-// How far a sitting has come.
+// What the event `index` meets.
 #[derive(Clone, Copy)]
-pub enum Progress {
-    // Before the item; player, transport and the rest say nothing yet.
-    Opening,
-    // Before the event `index`.
-    Playing,
-    // After the end, which is the event `index`.
-    Closing,
-    // In a number of more than ten bytes, of the item or of the event `index`.
-    StuckItem,
-    StuckEvent,
-    // Nothing more is printed.
-    NoMore,
-}
-
-#[derive(Clone, Copy)]
-pub struct Sitting {
-    pub progress: Progress,
+pub struct Playback {
     pub player: Player,
     // At the next block's first sample.
     pub transport: TransportCodes,
@@ -40,16 +25,38 @@ pub struct Sitting {
     pub index: u64,
 }
 
-// What one turn did: it wants more bytes, and nothing has changed; or it took so many bytes, printed up to a place, and left this sitting.
+// What is read: the item, or the event of an index. An item is read as itself, not as the lack of an event, so this is no Option.
+#[derive(Clone, Copy)]
+pub enum Part {
+    Item,
+    Event(u64),
+}
+
+// How far a sitting has come.
+#[derive(Clone, Copy)]
+pub enum Sitting {
+    // Before the item.
+    Opening,
+    // Before an event.
+    Playing(Playback),
+    // After the end, which is the event of this index.
+    Closing(u64),
+    // In a number of more than ten bytes.
+    Stuck(Part),
+    // Nothing more is printed.
+    NoMore,
+}
+
+// What a turn did: it took so many bytes, printed up to a place, and left this sitting.
 #[derive(Clone, Copy)]
 pub struct Turned {
     pub sitting: Sitting,
     pub taken: usize,
     pub place: usize,
-    pub wants: bool,
 }
 
-// What some turns did: they took so many bytes, printed so many, and left this sitting. `full` says that the buffer may be too short for the next turn.
+// What some turns did: they took so many bytes, printed so many, and left this sitting. `full` says that the buffer may be too short for the next turn. All fields
+// count in both cases, so it is a flag and no enum.
 #[derive(Clone, Copy)]
 pub struct Step {
     pub sitting: Sitting,

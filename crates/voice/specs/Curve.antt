@@ -1,5 +1,5 @@
 -- The curve that a stretch of frames reads, its points as moved by their buses, and what may be kept of a search. Assumes nothing.
-use Rattle.std.specs.Prelude.{◌≡◌, ℕ, suc, ◌≤◌, Bool, true, false, T, List, Float, Option}
+use Rattle.std.specs.Prelude.{◌≡◌, ℕ, suc, ◌≤◌, Bool, T, List, Float, Option}
 use Rattle.points.specs.Arrays.{Ascends}
 use Rattle.shape_segments.specs.declared.Segment.{Segment}
 use Rattle.shape_segments.specs.Segments.{empty_segment, contains_of, drawn_segment}
@@ -53,13 +53,9 @@ HoldsDrawn find s = (p : Float) → T (contains_of s p) → s ≡ find p
 abbrev pub HoldsPath : (Float → PathSegment) → PathSegment → Type 0
 HoldsPath find s = (p : Float) → T (path_contains s p) → s ≡ find p
 
-abbrev pub HoldsFor : Bool → (Float → Segment) → (Float → PathSegment) → Kept → Type 0
-HoldsFor true drawn path k = HoldsPath path k.path_seg
-HoldsFor false drawn path k = HoldsDrawn drawn k.seg
-
 unfoldable pub KeptFor : LfoType → Curve → Kept → Type 0
-KeptFor Drawn q k = HoldsFor false (drawn_at q) (path_at q) k
-KeptFor Path q k = HoldsFor true (drawn_at q) (path_at q) k
+KeptFor Drawn q k = HoldsDrawn (drawn_at q) k.seg
+KeptFor Path q k = HoldsPath (path_at q) k.path_seg
 KeptFor Lorenz q k = Unit
 KeptFor Rossler q k = Unit
 KeptFor SampleAndHold q k = Unit

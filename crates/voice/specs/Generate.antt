@@ -1,11 +1,10 @@
 -- What a voice generates at a cycle count, as `stage` and `raw` of lfo/mod.rs have it. The segment is searched for anew at every sample; that the code may keep the last one is a law
 -- (`KeptFor` of specs/Curve). Assumes nothing.
-use Rattle.std.specs.Prelude.{◌≡◌, ℕ, Bool, true, false, ℤ, Float, Option}
+use Rattle.std.specs.Prelude.{◌≡◌, ℕ, ℤ, Float, Option}
 use Rattle.std.specs.Float.{binary32}
 use Rattle.floatlaws.specs.Numbers.{f32_0, f32_1}
 use Rattle.floatlaws.specs.Narrow.{narrowed}
 use Rattle.chaos.specs.declared.law.Attractor.{Attractor}
-use Rattle.chaos.specs.declared.law.Attractor.TheVariants as Attractor
 use Rattle.chaos.specs.Advance.{advanced, output_of}
 use Rattle.shape_segments.specs.Segments.{curve_of, eval_of}
 use Rattle.path_segments.specs.declared.Xy.{Xy}
@@ -66,10 +65,6 @@ drew_at s k seg p = record { source = s; kept = record { seg = seg; path_seg = k
 
 abbrev pub traced_at : Source → Kept → PathSegment → Float → Generated
 traced_at s k seg p = record { source = s; kept = record { seg = k.seg; path_seg = seg }; x = (path_eval seg p).x; y = (path_eval seg p).y }
-
-abbrev pub shaped_at : Bool → Source → Kept → Segment → PathSegment → Float → Generated
-shaped_at true s k seg path_seg p = traced_at s k path_seg p
-shaped_at false s k seg path_seg p = drew_at s k seg p
 
 unfoldable pub held_at : Source → Kept → ℤ → Generated
 held_at s k cycle = record { source = sampled_of s cycle; kept = k; x = curve_of f32_0 (sampled_of s cycle).held f32_0 f32_1; y = f32_0 }

@@ -8,7 +8,6 @@ use Rattle.random.specs.Mix.{mixed}
 use Rattle.random.specs.Draw.{drawn}
 use Rattle.chaos.specs.declared.law.State.{State}
 use Rattle.chaos.specs.declared.law.Attractor.{Attractor}
-use Rattle.chaos.specs.declared.law.Attractor.TheVariants as Attractor
 use Rattle.chaos.specs.Law.{law_of}
 use Rattle.chaos.specs.Start.{start_at}
 use Rattle.settings.specs.declared.choices.LfoType.{LfoType}

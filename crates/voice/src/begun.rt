@@ -45,6 +45,7 @@ fn begun_source(kind: LfoType, made_for: Option<LfoType>, s: Source) -> Source
 }
 
 // In Free mode the player's clock counts, and the anchor stays.
+#[tactic(auto, unfolding(crate::specs::Voice::begun_anchor))]
 fn begun_anchor(mode: Mode, anchor: Anchor, block: Block, from: u64) -> Anchor
     ensures { result ≡ begun_anchor mode anchor block from }
 {

@@ -2,11 +2,12 @@
 ghost use Rattle.std.specs.Prelude.{◌≡◌, ◌≤◌};
 ghost use Rattle.voice.specs.Curve.{curve_of, drawn_at, path_at, HoldsDrawn, HoldsPath};
 
-use path_segments::{MAX_TIMES, PathSegment};
+use path_segments::{MAX_TIMES, PathSegment, PathView};
 use points::MAX_POINTS;
-use shape_segments::Segment;
+use shape_segments::{DrawnView, Segment};
 
 // A curve whose arrays are lent: for a shape `es` are the strengths and `from` is the x of its loopback point, for a path `es` are the bends.
+// They are arrays with the count beside, and no slices of `n`: the curve of the definitions is all of a page's 64 places.
 #[derive(Clone, Copy)]
 pub struct CurveView<'a> {
     pub xs: &'a [f32; MAX_POINTS],
@@ -28,7 +29,21 @@ impl CurveView<'_> {
         if before.contains(p) {
             return before;
         }
-        shape_segments::drawn_segment(self.xs, self.ys, self.es, self.steps, self.n, p)
+        let CurveView {
+            xs,
+            ys,
+            es,
+            steps,
+            n,
+            ..
+        } = self;
+        let drawn = DrawnView {
+            xs: &xs[..n],
+            ys,
+            es,
+            steps,
+        };
+        drawn.segment(p)
     }
 
     // The segment of the path at p: the kept one where it holds p.
@@ -39,14 +54,22 @@ impl CurveView<'_> {
         if before.contains(p) {
             return before;
         }
-        path_segments::path_segment(
-            self.xs,
-            self.ys,
-            self.es,
-            self.times,
-            self.n,
-            self.closed,
-            p,
-        )
+        let CurveView {
+            xs,
+            ys,
+            es,
+            n,
+            times,
+            closed,
+            ..
+        } = self;
+        let path = PathView {
+            xs: &xs[..n],
+            ys,
+            bends: es,
+            times,
+            closed,
+        };
+        path.segment(p)
     }
 }

@@ -49,13 +49,13 @@ fn fresh_source(kind: LfoType, phase: f64, s: Source) -> Source
 
 // In Free mode the source stays.
 #[tactic(auto, unfolding(crate::specs::Voice::restarted_source))]
-fn restarted_source(mode: Mode, kind: LfoType, phase: f64, s: Source) -> Source
-    ensures { result ≡ restarted_source mode kind phase s }
+fn restarted_source(settings: Settings, phase: f64, s: Source) -> Source
+    ensures { result ≡ restarted_source settings.mode settings.kind phase s }
 {
-    match mode {
+    match settings.mode {
         Mode::Free => s,
-        Mode::Restart => fresh_source(kind, phase, s),
-        Mode::OneShot => fresh_source(kind, phase, s),
+        Mode::Restart => fresh_source(settings.kind, phase, s),
+        Mode::OneShot => fresh_source(settings.kind, phase, s),
     }
 }
 
@@ -93,7 +93,7 @@ pub fn trigger(s: Settings, block: Block, v: Voice) -> Voice
 {
     Voice {
         anchor: restarted_anchor(s.mode, v.anchor, block),
-        source: restarted_source(s.mode, s.kind, block.phase, v.source),
+        source: restarted_source(s, block.phase, v.source),
         output: restarted_output(
             clock::samples(s.delay, block),
             clock::samples(s.fade_in, block),

@@ -10,6 +10,7 @@ use codes::{
     ShapeCodes, SmoothCodes, SpanCodes, TransportCodes,
 };
 use points::MAX_POINTS;
+use questions::Question;
 use std::io;
 use std::io::{BufWriter, Write};
 
@@ -103,42 +104,26 @@ fn transport() -> TransportCodes {
     }
 }
 
-// Whether an answer is a refusal; if so, writes it.
-fn refused<W: Write>(to: &mut W, answer: u8) -> io::Result<bool> {
-    if answer == 0 {
-        return Ok(false);
-    }
-    writeln!(to, "{answer}")?;
-    Ok(true)
-}
-
-fn main(rt: HostRuntime) -> io::Result<()> {
-    let mut to = BufWriter::new(rt.alloc(), io::writer(&rt))?;
-    let made = player::make(settings(), 0);
-    if refused(&mut to, made.answer)? {
-        return to.flush();
-    }
+// Plays the shape's frames after a restart into x and y.
+fn play(x: &mut [f32; FRAMES], y: &mut [f32; FRAMES]) -> Result<(), Question> {
     let shape = ShapeCodes {
         points: points(),
         count: 2,
         loopback: LoopbackCodes { code: 0, index: 0 },
     };
-    let shaped = player::set_shape(made.player, shape);
-    if refused(&mut to, shaped.answer)? {
-        return to.flush();
-    }
+    let p = player::set_shape(player::make(settings(), 0)?, shape)?;
     let restart = RestartCodes { code: 1, frame: 0 };
+    player::play(p, transport(), FRAMES as u64, restart, x, y)?;
+    Ok(())
+}
+
+fn main(rt: HostRuntime) -> io::Result<()> {
+    let mut to = BufWriter::new(rt.alloc(), io::writer(&rt))?;
     let mut x = [0.0; FRAMES];
     let mut y = [0.0; FRAMES];
-    let played = player::play(
-        shaped.player,
-        transport(),
-        FRAMES as u64,
-        restart,
-        &mut x,
-        &mut y,
-    );
-    if refused(&mut to, played.answer)? {
+    if let Err(question) = play(&mut x, &mut y) {
+        let number = question.number();
+        writeln!(to, "{number}")?;
         return to.flush();
     }
     for weight in x {

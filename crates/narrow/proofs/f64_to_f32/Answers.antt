@@ -2,15 +2,12 @@
 -- Assumes nothing.
 use Rattle.std.proofs.Common.{T, sym, subst}
 use lib.Ieee.{binary64, fits}
-use Rattle.narrow.proofs.Signs.{above, below, below_is, zero_fits, zero_same, none_of_these}
+use Rattle.narrow.proofs.Signs.{below, below_is, zero_fits, zero_same, none_of_these}
 use Rattle.narrow.proofs.f64_to_f32.Goals as goal
 use Rattle.narrow.proofs.f64_to_f32.Goals.{Start}
 
 held : (c : Start) → T (fits binary64 c.args.x)
 held c = subst T (sym c.well_formed.0.1) tt
-
-pub size_to_f32-requires : goal.size_to_f32-requires
-size_to_f32-requires c = above c.args.x c.if-x.true
 
 pub size_to_f32-requires-then-x-2 : goal.size_to_f32-requires-then-x-2
 size_to_f32-requires-then-x-2 c = below c.args.x c.if-x-2.true

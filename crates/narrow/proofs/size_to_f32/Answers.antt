@@ -1,10 +1,10 @@
 -- `narrow::size_to_f32` meets its contract, by the laws of proofs/Size.antt.
 -- Assumes nothing.
-use Rattle.std.proofs.Common.{◌+◌, ◌-◌, ◌/◌, T, sym, subst, arith}
-use lib.Bits.{bit_and, mask_lt}
+use Rattle.std.proofs.Common.{◌+◌, ◌-◌, ◌/◌, T, sym, subst}
+use lib.Bits.{bit_and}
 use lib.Ieee.{binary32, binary64, add, fits, nan_bits, of_bits, to_bits}
 use Rattle.floatlaws.specs.Narrow.{narrowed}
-use Rattle.narrow.proofs.Size.{Made, Sum, is_number, large_is, normal_is, low_is}
+use Rattle.narrow.proofs.Size.{Made, Sum, large_is, normal_is, low_is}
 use Rattle.narrow.proofs.size_to_f32.Goals as goal
 use Rattle.narrow.proofs.size_to_f32.Goals.{Else-is_normal, Start, Then-is_normal}
 
@@ -16,15 +16,6 @@ normal c = normal_is c.args.x (held c.before.before) c.requires c.if-is_normal.t
 
 low : (c : Else-is_normal) → Sum (add binary64 c.args.x (of_bits binary64 0x39e0_0000_0000_0000)) (narrowed binary32 c.args.x)
 low c = low_is c.args.x (held c.before.before) c.requires c.if-is_normal.false
-
-pub float_to_bits-b : goal.float_to_bits-b
-float_to_bits-b c = is_number c.args.x c.requires
-
-pub overflow_add-cut : goal.overflow_add-cut
-overflow_add-cut c = omega (arith, mask_lt (to_bits binary64 c.args.x / 536870912) 1)
-
-pub overflow_cast-result : goal.overflow_cast-result
-overflow_cast-result c = record { fits = (normal (goal.at.overflow_cast-result c).Then-is_normal).0 }
 
 pub float_from_bits-result : goal.float_from_bits-result
 float_from_bits-result c = (normal (goal.at.float_from_bits-result c).Then-is_normal).1

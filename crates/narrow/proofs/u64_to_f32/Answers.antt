@@ -2,19 +2,13 @@
 -- Assumes nothing.
 use Rattle.std.proofs.Common.{◌-◌, ◌≤◌, lt_of_le_of_lt, lit<}
 use lib.Count.{count_leading_zeros}
-use Rattle.narrow.proofs.Digits.{Placed, placed, small_in, zeros_fit, pattern_wide, pattern_fits, pattern_number, pattern_is}
+use Rattle.narrow.proofs.Digits.{Placed, placed, pattern_wide, pattern_fits, pattern_number, pattern_is}
 use Rattle.narrow.proofs.u64_to_f32.Goals as goal
 use Rattle.narrow.proofs.u64_to_f32.Goals.{Else-n-lt16777216}
 
 -- where the leading zeros put the cut
 place : (c : Else-n-lt16777216) → (count_leading_zeros 64 c.args.n ≤ 40) × Placed c.args.n (40 - count_leading_zeros 64 c.args.n)
 place c = placed c.args.n c.ranges.n.fits c.if-n-lt16777216.false
-
-pub int_to_float-result : goal.int_to_float-result
-int_to_float-result c = small_in c.args.n c.if-n-lt16777216.true
-
-pub overflow_cast-t : goal.overflow_cast-t
-overflow_cast-t c = record { fits = zeros_fit c.args.n }
 
 pub overflow_sub-t : goal.overflow_sub-t
 overflow_sub-t c = (place (goal.at.overflow_sub-t c).Else-n-lt16777216).0

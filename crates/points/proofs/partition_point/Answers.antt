@@ -1,19 +1,22 @@
--- `partition_point` meets its contract. The loop's invariant: the answer is that for the first i alone. Assumes nothing.
-use mathlib.Core.Path.{◌≡◌, sym, ◌∙◌}
-use Prim.Native.Nat.{◌+◌, ◌-◌}
-use native.Mathlib.Omega.{arith}
-use Rattle.points.proofs.Partition.{partition_found, partition_passed, partition_none}
+-- `partition_point` meets its contract: the place after the one that was found. Assumes nothing.
+use Rattle.std.proofs.Common.{ℕ, ◌≡◌, ◌<◌, false, true, length, sym, ◌∙◌, add-one, arith, rules}
+use Rattle.std.specs.Prelude.{get_or}
+use Rattle.std.specs.Float.{nan}
+use Rattle.std.specs.Float.Ieee.{le}
+use Rattle.points.proofs.Partition.{partition_found, partition_none}
 use Rattle.points.proofs.partition_point.Goals as goal
 
-pub returns-then-xs-i : goal.returns-then-xs-i
-returns-then-xs-i c =
-    let e : c.loop-i.i - 1 + 1 ≡ c.loop-i.i = omega arith in
-    (e ∙ sym (c.loop-i.invariant ∙ partition_found _ _ _ (omega arith) c.if-xs-i.true), omega arith)
+pub returns-in-Some : goal.returns-in-Some
+returns-in-Some c =
+    let xs = c.args.xs.now in
+    let i = c.in-Some.i in
+    let inside : i < length xs = search rules in
+    let here : le (get_or xs i nan) c.args.x ≡ true = search rules in
+    let after : (k : ℕ) → i < k → k < length xs → le (get_or xs k nan) c.args.x ≡ false = search rules in
+    (add-one i ∙ sym (partition_found xs c.args.x (length xs) i inside here after), omega arith)
 
-pub loop-i-preserved : goal.loop-i-preserved
-loop-i-preserved c = c.loop-i.invariant ∙ partition_passed _ _ _ (omega arith) c.if-xs-i.false
-
-pub returns : goal.returns
-returns c =
-    let z : c.loop-i.i ≡ 0 = omega arith in
-    (sym (c.loop-i.invariant ∙ partition_none _ _ _ (omega arith) ∙ z), omega arith)
+pub returns-in-None : goal.returns-in-None
+returns-in-None c =
+    let xs = c.args.xs.now in
+    let none : (k : ℕ) → k < length xs → le (get_or xs k nan) c.args.x ≡ false = search rules in
+    (sym (partition_none xs c.args.x (length xs) none), omega arith)

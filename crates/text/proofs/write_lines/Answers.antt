@@ -1,7 +1,7 @@
 -- `write_lines` meets its contract: there is room, or there is none. Assumes nothing.
 use Rattle.std.proofs.Common.{◌≡◌, sym, length}
 use Rattle.text.specs.Lines.{lines, lines_size}
-use Rattle.text.proofs.Answers.{written, not_written}
+use Rattle.listlaws.proofs.Write.{written, not_written}
 use Rattle.text.proofs.Steps.{lines_long}
 use Rattle.text.proofs.write_lines.Goals as goal
 use Rattle.text.proofs.write_lines.Goals.{Start}

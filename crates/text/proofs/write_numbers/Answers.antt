@@ -5,7 +5,7 @@ use native.Mathlib.Omega.{arith}
 use borrow.Author.Rules.{rules}
 use lib.ListN.{length}
 use Rattle.text.specs.Lines.{numbers}
-use Rattle.text.proofs.Answers.{written, not_written}
+use Rattle.listlaws.proofs.Write.{written, not_written}
 use Rattle.text.proofs.Decimal.{size_most}
 use Rattle.text.proofs.Steps.{numbers_length}
 use Rattle.text.proofs.write_numbers.Goals as goal

@@ -1,6 +1,6 @@
 -- `whole::floor_to_i64` meets its contract, by the law of proofs/Cast.antt. MIR has each number by its bit pattern, and `of_bits` and `neg` compute to the law's numbers.
 -- Assumes nothing.
-use Rattle.std.proofs.Common.{ap, ◌∙◌, w64}
+use Rattle.std.proofs.Common.{◌∙◌, w64}
 use lib.Ieee.{binary64, add, to_signed, of_bits, neg}
 use lib.Ieee.Casts.{to_signed_in}
 use mir.ValLaws.{to_z-of_z}
@@ -19,9 +19,3 @@ returns-then-x-2 c =
     let y = add binary64 c.floor-t.result nought in
     to_z-of_z w64 (to_signed 63 y) (record { sfits = to_signed_in 63 y })
     ∙ (cast c.args.x c.floor-t.result (yes_so c.if-x.true) (yes_so c.if-x-2.true) c.floor-t.ensures).1
-
-pub returns : goal.returns
-returns c =
-    to_z-of_z w64 c.f64_to_i64.result (record { sfits = c.f64_to_i64.type_inv })
-    ∙ c.f64_to_i64.ensures
-    ∙ ap (to_signed 63) c.floor-t.ensures

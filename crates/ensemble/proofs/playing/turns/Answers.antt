@@ -14,20 +14,20 @@ loop-v-init c =
 pub turn-requires : goal.turn-requires
 turn-requires c =
     let inv = c.loop-v.invariant in
-    rw (inv.voices_are, inv.x_is, inv.y_is) (turn_ready c.args.p c.args.voices.now c.args.x.now c.args.y.now c.requires.1 c.loop-v.v (omega (arith, c.requires.0)))
+    rw (inv.voices_are, inv.x_is, inv.y_is) (turn_ready c.args.p c.args.voices.now c.args.x.now c.args.y.now c.requires c.loop-v.v (omega arith))
 
 pub loop-v-preserved : goal.loop-v-preserved
 loop-v-preserved c =
     let inv = c.loop-v.invariant in
-    let one : c.loop-v.v < c.args.p.voices = omega (arith, c.requires.0) in
+    let one : c.loop-v.v < c.args.p.voices = omega arith in
     let e = rw (inv.voices_are, inv.x_is, inv.y_is) at c.turn.ensures in
     record {
-      voices_are = list_next c.args.p c.args.voices.now c.args.x.now c.args.y.now c.requires.1 c.loop-v.v one _ _ _ e;
-      x_is = x_next c.args.p c.args.voices.now c.args.x.now c.args.y.now c.requires.1 c.loop-v.v one _ _ _ e;
-      y_is = y_next c.args.p c.args.voices.now c.args.x.now c.args.y.now c.requires.1 c.loop-v.v one _ _ _ e;
+      voices_are = list_next c.args.p c.args.voices.now c.args.x.now c.args.y.now c.requires c.loop-v.v one _ _ _ e;
+      x_is = x_next c.args.p c.args.voices.now c.args.x.now c.args.y.now c.requires c.loop-v.v one _ _ _ e;
+      y_is = y_next c.args.p c.args.voices.now c.args.x.now c.args.y.now c.requires c.loop-v.v one _ _ _ e;
     }
 
 pub returns : goal.returns
 returns c =
     let inv = c.loop-v.invariant in
-    rw (inv.voices_are, inv.x_is, inv.y_is) (all_played c.args.p c.args.voices.now c.args.x.now c.args.y.now c.requires.1 c.loop-v.v (omega (arith, c.requires.0)))
+    rw (inv.voices_are, inv.x_is, inv.y_is) (all_played c.args.p c.args.voices.now c.args.x.now c.args.y.now c.requires c.loop-v.v (omega arith))

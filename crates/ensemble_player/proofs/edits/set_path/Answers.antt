@@ -1,7 +1,12 @@
 -- `set_path` meets its contract. Assumes nothing.
-use Rattle.ensemble_player.proofs.Sets.{path_done}
+use Rattle.questions.proofs.Results.{passed_on}
+use Rattle.ensemble_player.proofs.Sets.{path_refused, path_done}
 use Rattle.ensemble_player.proofs.edits.set_path.Goals as goal
+
+pub returns-in_err-server : goal.returns-in_err-server
+returns-in_err-server c =
+    rw (passed_on _ c.from_residual.ensures) (path_refused _ c.requires _ _ (rw c.server_of.ensures at c.in_err-server.ensures))
 
 pub returns : goal.returns
 returns c =
-    rw c.paged.ensures (path_done _ c.requires _ _ (rw c.server_of.ensures at c.set_path-set.ensures))
+    rw c.paged.ensures (path_done _ c.requires _ _ (rw c.server_of.ensures at c.in_ok-server.ensures))

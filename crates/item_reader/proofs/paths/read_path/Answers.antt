@@ -1,12 +1,7 @@
 -- `read_path` meets its contract. Assumes nothing.
-use borrow.Author.Rules.{rules}
 use Rattle.fields.specs.Parser.{after}
 use Rattle.item_reader.proofs.Rows.{path_is}
 use Rattle.item_reader.proofs.paths.read_path.Goals as goal
-
-pub returns-in_err-points : goal.returns-in_err-points
-unfolding after
-returns-in_err-points c = rw (path_is _ _ _ _ c.in_ok-count.ensures.reads _ _ c.in_ok-closed.ensures.reads, ← c.in_err-points.ensures) (search rules)
 
 pub returns : goal.returns
 unfolding after

@@ -9,6 +9,7 @@ use lib.ListN.{length, set, length-set}
 use lib.Seq.{sets, sets-eq}
 use Rattle.number.specs.Encoded.{encoded}
 use Rattle.listlaws.specs.Over.{over}
+use Rattle.listlaws.specs.Write.{Puts}
 use Rattle.number.proofs.Form.{encoded_last, encoded_more, encoded_some}
 use Rattle.number.proofs.writer.put.Given as goal
 
@@ -32,11 +33,11 @@ module _ {x : List ℕ} {at n : ℕ} {y : List ℕ} {rest i : ℕ} (p : Putting 
 
   -- the last group
   pub done : rest ≤ 127 → {b : ℕ} → b ≡ rest → at + length (encoded n) ≤ length x
-      → (i + 1 ≡ at + length (encoded n)) × (set y i b ≡ over x at (encoded n))
+      → Puts x at (encoded n) (i + 1) (set y i b)
   unfolding over
   done h b-is room =
       let e : encoded rest ≡ rest ∷ [] = encoded_last rest (omega arith) in
-      (omega (arith, ap length e), rw b-is (rw e at p.bytes) ∙ sets-eq (encoded n) x at room)
+      record { next = omega (arith, ap length e); bytes = rw b-is (rw e at p.bytes) ∙ sets-eq (encoded n) x at room }
 
   -- there is a byte to store
   pub inside : at + length (encoded n) ≤ length x → i < length y

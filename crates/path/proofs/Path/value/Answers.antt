@@ -1,5 +1,6 @@
 -- `Path::value` meets its contract: what each call gave, put together. Assumes nothing.
-use mathlib.Core.Path.{◌≡◌}
+use mathlib.Core.Path.{◌≡◌, ◌∙◌}
+use native.Mathlib.Omega.{arith}
 use mathlib.Core.List.{List}
 use lib.ListN.{replicate}
 use lib.Ieee.{Float}
@@ -9,6 +10,7 @@ use Rattle.path.specs.declared.Path.{Path}
 use Rattle.path_segments.specs.declared.PathSegment.{PathSegment}
 use Rattle.path_segments.specs.declared.Xy.{Xy}
 use Rattle.path_segments.specs.Segments.{path_segment, path_eval}
+use Rattle.path_segments.proofs.First.{path_first}
 use Rattle.path.specs.Paths.{modulated_path, bends_of, path_value}
 use Rattle.path.proofs.Path.value.Goals as goal
 
@@ -26,5 +28,5 @@ returns c =
     together _ _ _ _ _ _
     c.modulated-at.ensures
     c.bends-bends.ensures
-    c.path_segment-segment.ensures
+    (c.segment.ensures ∙ path_first _ _ _ _ _ _ _ (omega arith))
     c.eval.ensures

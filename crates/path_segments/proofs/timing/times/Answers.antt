@@ -1,10 +1,5 @@
 -- `times` meets its contract. The loop's invariant: the first j times are stored, and j legs are summed. Assumes nothing.
-use Prim.Native.Nat.{◌<◌}
-use mathlib.Core.Path.{◌≡◌, refl, ap, ◌∙◌}
-use native.Mathlib.Numerals.{add-one}
-use native.Mathlib.Omega.{arith}
-use lib.Ieee.{nan}
-use Rattle.std.proofs.lemmas.List.{get_or-take, length-take-le}
+use Rattle.std.proofs.Common.{◌≡◌, length, refl, ap, ◌∙◌, add-one, arith}
 use Rattle.floatlaws.specs.Numbers.{f32_0}
 use Rattle.listlaws.specs.Tables.{tabulate}
 use Rattle.listlaws.proofs.Tabulation.{fill_more}
@@ -20,18 +15,15 @@ pub loop-j-preserved : goal.loop-j-preserved
 unfolding sum_to
 loop-j-preserved c =
     let inv = c.loop-j.invariant in
-    let t = next_time _ _ _ _ _ _ inv.1 c.total-whole.ensures c.share.ensures in
-    let n = c.args.n in
-    let legs = c.args.legs.now in
-    let h : c.loop-j.j < n = omega (arith, length-take-le n legs (omega arith)) in (
+    let t = next_time _ _ _ _ _ _ inv.1 c.total-whole.ensures c.share.ensures in (
       rw (inv.0, t, add-one) (fill_more _ 65 f32_0 _ (omega arith)),
-      rw (inv.1, get_or-take n legs c.loop-j.j nan h, add-one),
+      rw (inv.1, add-one),
     )
 
 pub returns : goal.returns
 unfolding times_of
 returns c =
-    let e : c.loop-j.j ≡ c.args.n = omega (arith, length-take-le c.args.n c.args.legs.now (omega arith)) in
+    let e : c.loop-j.j ≡ length c.args.legs.now = omega arith in
     let sum = c.loop-j.invariant.1 ∙ ap (sum_to c.args.legs.now) e in
     let t = next_time _ _ _ _ _ _ sum c.total-whole.ensures c.share-2.ensures in
     rw (c.loop-j.invariant.0, t, e) (fill_more _ 65 f32_0 _ (omega arith))

@@ -1,11 +1,10 @@
 -- `set_path` meets its contract. Assumes nothing.
+use Rattle.questions.proofs.Results.{passed_on}
 use Rattle.player.proofs.Sets.{path_refused, path_set}
 use Rattle.player.proofs.edits.set_path.Goals as goal
 
-pub returns-then-answer-ne0 : goal.returns-then-answer-ne0
-returns-then-answer-ne0 c =
-    path_refused _ c.requires _ _ c.path_answer-answer.ensures c.if-answer-ne0.true
+pub returns-in_err-path_answer : goal.returns-in_err-path_answer
+returns-in_err-path_answer c = rw (passed_on _ c.from_residual.ensures) (path_refused _ c.requires _ _ c.in_err-path_answer.ensures)
 
 pub returns : goal.returns
-returns c =
-    path_set _ c.requires _ _ c.path_answer-answer.ensures c.if-answer-ne0.false _ c.path_of-path.ensures.0 _ c.of.ensures _ c.edited-player.ensures
+returns c = path_set _ c.requires _ c.in_ok-path_answer.ensures _ c.path_of-path.ensures.0 _ c.of.ensures _ c.edited.ensures

@@ -1,9 +1,20 @@
 -- `make` meets its contract. Assumes nothing.
-use Rattle.player.proofs.Makings.{makes_player}
+use mathlib.Core.Path.{sym, ◌∙◌}
+use Rattle.questions.proofs.Facts.{settings_given}
+use Rattle.questions.proofs.Results.{passed_on}
+use Rattle.player.proofs.Makings.{make_refused, makes_player}
 use Rattle.player.proofs.making.make.Goals as goal
+
+pub returns-in_err-settings_answer : goal.returns-in_err-settings_answer
+returns-in_err-settings_answer c = rw (passed_on _ c.from_residual.ensures) (make_refused _ _ _ c.in_err-settings_answer.ensures)
+
+pub returns-in_err-s : goal.returns-in_err-s
+returns-in_err-s c =
+    absurd (settings_given _ (sym c.in_ok-settings_answer.ensures) (sym c.from_codes.ensures ∙ c.in_err-s.ensures.ok_part))
 
 pub returns : goal.returns
 returns c =
+    let known = sym c.from_codes.ensures ∙ c.in_ok-s.ensures.ok_part in
     -- the last field of the settings is a u16
-    let grid = c.first_settings.type_inv.1.1.1.1.1.1.1.1.1.1.1.1.1.0.1 in
-    makes_player _ _ _ c.settings_answer-answer.ensures _ grid c.first_settings.ensures _ _ c.new.ensures c.new_deck.ensures
+    let grid = c.new_player.type_inv.1.1.0.1.1.0.1.1.1.1.1.1.1.1.1.1.1.1.1.0.1 in
+    makes_player _ _ c.in_ok-settings_answer.ensures _ known _ c.new_player.ensures grid

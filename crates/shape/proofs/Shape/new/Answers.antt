@@ -7,5 +7,5 @@ use Rattle.shape.proofs.Shape.new.Goals as goal
 pub returns : goal.returns
 unfolding shape_of
 returns c =
-    let s = sort_first c.args.points c.kept-len.result (omega arith) in
+    let s = sort_first c.args.points.now c.kept-len.result (omega arith) in
     (rw (c.sort.ensures, s, c.kept-len.ensures), omega arith)

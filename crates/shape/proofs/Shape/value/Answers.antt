@@ -1,11 +1,13 @@
 -- `Shape::value` meets its contract: what each call gave, put together. Assumes nothing.
-use mathlib.Core.Path.{◌≡◌}
+use mathlib.Core.Path.{◌≡◌, ◌∙◌}
+use native.Mathlib.Omega.{arith}
 use lib.Ieee.{Float}
 use Rattle.shape.specs.declared.Shape.{Shape}
 use Rattle.points.specs.declared.Coordinates.{Coordinates}
 use Rattle.shape.specs.declared.Curves.{Curves}
 use Rattle.shape_segments.specs.declared.Segment.{Segment}
 use Rattle.shape_segments.specs.Segments.{drawn_segment, eval_of}
+use Rattle.shape_segments.proofs.First.{of_first}
 use Rattle.shape.specs.Shapes.{coordinates_of, curves_of, shape_value}
 use Rattle.shape.proofs.Shape.value.Goals as goal
 
@@ -23,5 +25,5 @@ returns c =
     together _ _ _ _ _ _
     c.coordinates-at.ensures
     c.curves-curves.ensures
-    c.drawn_segment-segment.ensures
+    (c.segment.ensures ∙ of_first _ _ _ _ _ _ (omega arith))
     c.eval.ensures

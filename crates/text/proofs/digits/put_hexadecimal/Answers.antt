@@ -6,7 +6,7 @@ use borrow.Author.Rules.{rules}
 use lib.ListN.{length, length-append}
 use Rattle.text.specs.Digits.{pair_of, hexadecimal}
 use Rattle.text.specs.Write.{Puts}
-use Rattle.text.proofs.Over.{puts_more, puts_room}
+use Rattle.listlaws.proofs.Write.{puts_more, puts_room}
 use Rattle.text.proofs.Hexadecimal.{pair_length, by_pairs}
 use Rattle.text.proofs.digits.put_hexadecimal.Goals as goal
 

@@ -8,7 +8,7 @@ use lib.Ieee.{Float, binary32, to_bits}
 use Rattle.text.specs.Digits.{hexadecimal}
 use Rattle.text.specs.Lines.{blank, bits_of}
 use Rattle.text.specs.Write.{Puts}
-use Rattle.text.proofs.Over.{puts_more}
+use Rattle.listlaws.proofs.Write.{puts_more}
 use Rattle.text.proofs.Steps.{hexadecimal_length}
 use Rattle.text.proofs.lines.put_field.Goals as goal
 

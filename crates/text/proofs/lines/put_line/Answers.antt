@@ -7,7 +7,7 @@ use lib.Ieee.{Float}
 use Rattle.text.specs.Digits.{decimal}
 use Rattle.text.specs.Lines.{blank, line_feed, bits_of, line}
 use Rattle.text.specs.Write.{Puts}
-use Rattle.text.proofs.Over.{puts_more, puts_room}
+use Rattle.listlaws.proofs.Write.{puts_more, puts_room}
 use Rattle.text.proofs.Steps.{bits_length, line_parts}
 use Rattle.text.proofs.lines.put_line.Goals as goal
 

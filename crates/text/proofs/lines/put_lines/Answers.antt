@@ -10,7 +10,7 @@ use lib.Ieee.{Float, nan}
 use Rattle.text.specs.Digits.{decimal}
 use Rattle.text.specs.Lines.{line, lines, lines_size}
 use Rattle.text.specs.Write.{Puts}
-use Rattle.text.proofs.Over.{Putting, put_room, put_one, put_all}
+use Rattle.listlaws.proofs.Write.{Putting, put_room, put_one, put_all}
 use Rattle.text.proofs.Steps.{line_length, lines_at, lines_end, lines_long}
 use Rattle.text.proofs.lines.put_lines.Goals as goal
 

@@ -2,7 +2,7 @@
 use Prim.Native.Nat.{◌+◌}
 use lib.ListN.{drop}
 use Rattle.text.specs.Lines.{lines}
-use Rattle.text.proofs.Over.{Putting}
+use Rattle.listlaws.proofs.Write.{Putting}
 use Rattle.text.proofs.lines.put_lines.Given as goal
 
 abbrev pub invariant-loop-k : goal.invariant-loop-k

@@ -1,7 +1,7 @@
 -- `put_more` meets its contract: what is written and what is to come make all of it. Assumes nothing.
 use native.Mathlib.Numerals.{add-one}
 use native.Mathlib.Omega.{arith}
-use Rattle.text.proofs.Over.{put_one, put_last}
+use Rattle.listlaws.proofs.Write.{put_one, put_last}
 use Rattle.text.proofs.Steps.{more_at, more_end}
 use Rattle.text.proofs.lines.put_more.Invariants.{next_room, end_room}
 use Rattle.text.proofs.lines.put_more.Goals as goal

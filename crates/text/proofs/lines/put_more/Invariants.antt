@@ -4,7 +4,7 @@ use mathlib.Core.List.{List, [], ◌∷◌}
 use lib.ListN.{length, drop, get_or}
 use Rattle.text.specs.Digits.{decimal}
 use Rattle.text.specs.Lines.{blank, line_feed, more}
-use Rattle.text.proofs.Over.{Putting, put_room, put_space}
+use Rattle.listlaws.proofs.Write.{Putting, put_room, put_space}
 use Rattle.text.proofs.Steps.{more_at, more_end}
 use Rattle.text.proofs.lines.put_more.Given as goal
 

@@ -1,6 +1,6 @@
 -- `put_next` meets its contract: a blank, and the digits. Assumes nothing.
 use native.Mathlib.Omega.{arith}
-use Rattle.text.proofs.Over.{puts_more}
+use Rattle.listlaws.proofs.Write.{puts_more}
 use Rattle.text.proofs.lines.put_next.Goals as goal
 
 pub returns : goal.returns

@@ -1,7 +1,7 @@
 -- `put_numbers` meets its contract: the first number, and the others. Assumes nothing.
 use native.Mathlib.Omega.{arith}
 use Rattle.text.specs.Lines.{numbers}
-use Rattle.text.proofs.Over.{puts_more}
+use Rattle.listlaws.proofs.Write.{puts_more}
 use Rattle.text.proofs.lines.put_numbers.Goals as goal
 
 pub returns : goal.returns

@@ -1,16 +1,16 @@
 -- `bus_turn` meets its contract. Assumes nothing.
 use native.Mathlib.Omega.{arith}
 use Rattle.turns.specs.Turns.{next_sitting}
-use Rattle.turns.proofs.One.{bus_fails, bus_goes, turn_goes}
+use Rattle.turns.proofs.One.{bus_fails, bus_goes, with_player, turn_goes}
 use Rattle.turns.proofs.steps.bus_turn.Goals as goal
 
-pub returns-then-r-ne0 : goal.returns-then-r-ne0
-returns-then-r-ne0 c =
+pub returns-in-Err : goal.returns-in-Err
+returns-in-Err c =
     let a = c.args in
-    rw (bus_fails a.t a.bus a.value a.taken c.set_bus-r.ensures c.if-r-ne0.true) c.fail.ensures
+    rw (bus_fails a.p a.bus a.value a.taken c.in-Err.ensures c.number.ensures) c.fail.ensures
 
-pub returns : goal.returns
-returns c =
+pub returns-in-Ok : goal.returns-in-Ok
+returns-in-Ok c =
     let a = c.args in
-    rw (bus_goes a.t a.bus a.value a.taken c.set_bus-r.ensures c.if-r-ne0.false)
-    (turn_goes c.requires (next_sitting a.t c.set_bus-r.result.player a.t.transport a.t.waiting) (omega arith) c.set_bus-r.ensures.valid a.taken c.go_on.ensures)
+    rw (bus_goes a.p a.bus a.value a.taken c.in-Ok.ensures)
+    (turn_goes c.requires.room (next_sitting (with_player a.p c.in-Ok.player)) (omega arith) c.in-Ok.ensures.valid a.taken c.go_on.ensures)

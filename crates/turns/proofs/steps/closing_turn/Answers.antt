@@ -1,11 +1,12 @@
 -- `closing_turn` meets its contract. Assumes nothing.
-use Rattle.turns.proofs.One.{turn_waits, closing_none, closing_some}
+use mathlib.Core.Path.{refl}
+use Rattle.turns.proofs.One.{closing_none, closing_some}
 use Rattle.turns.proofs.steps.closing_turn.Goals as goal
 
 pub returns-then-len-eq0 : goal.returns-then-len-eq0
 returns-then-len-eq0 c =
-    rw (closing_none c.args.t.index c.args.s.now c.if-len-eq0.true) (turn_waits c.requires c.wait.ensures)
+    rw (closing_none c.args.index c.args.s.now c.if-len-eq0.true) (refl, refl)
 
 pub returns : goal.returns
 returns c =
-    rw (closing_some c.args.t.index c.args.s.now c.if-len-eq0.false) c.fail.ensures
+    rw (closing_some c.args.index c.args.s.now c.if-len-eq0.false) c.fail.ensures

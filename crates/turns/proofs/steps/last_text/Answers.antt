@@ -1,37 +1,27 @@
 -- `last_text` meets its contract. Assumes nothing.
-use native.Mathlib.Omega.{arith}
-use lib.Dec.{eqb}
-use lib.ListN.{length}
-use mathlib.Core.Bool.{true, false}
 use Rattle.sittings.specs.Windows.{last_text}
-use Rattle.turns.proofs.One.{last_puts, last_none, last_playing, last_small}
+use Rattle.listlaws.proofs.Write.{puts_none}
+use Rattle.turns.specs.Turns.{course_of}
+use Rattle.turns.proofs.One.{last_playing}
 use Rattle.turns.proofs.steps.last_text.Goals as goal
 
-pub returns-in-Opening : goal.returns-in-Opening
+pub returns-in-Opening-clause-text : goal.returns-in-Opening-clause-text
 unfolding last_text
-returns-in-Opening c =
-    rw c.in-Opening.is (last_puts true c.args.t 12 (omega arith) c.requires.1 c.requires.0 c.write_fault.ensures c.place_after.ensures)
+returns-in-Opening-clause-text c = rw c.in-Opening.is c.last_line.ensures.line
 
-pub returns-in-Playing : goal.returns-in-Playing
-returns-in-Playing c =
-    let n = c.last_fault.ensures in
-    rw (c.in-Playing.is, last_playing c.args.t c.args.s.now n)
-    (last_puts false c.args.t c.last_fault.result (last_small (eqb (length c.args.s.now) 0) n) c.requires.1 c.requires.0 c.write_fault-in-Playing.ensures c.place_after-in-Playing.ensures)
+pub returns-in-Playing-clause-text : goal.returns-in-Playing-clause-text
+returns-in-Playing-clause-text c =
+    let line = c.last_line-in-Playing.ensures.line in
+    rw (c.in-Playing.is, last_playing (course_of c.in-Playing.p) c.args.s.now c.last_fault.ensures) line
 
-pub returns-in-Closing : goal.returns-in-Closing
+pub returns-in-Closing-clause-text : goal.returns-in-Closing-clause-text
 unfolding last_text
-returns-in-Closing c = rw c.in-Closing.is (last_none _)
+returns-in-Closing-clause-text c = rw c.in-Closing.is (puts_none _ 0)
 
-pub returns-in-StuckItem : goal.returns-in-StuckItem
+pub returns-in-Stuck-clause-text : goal.returns-in-Stuck-clause-text
 unfolding last_text
-returns-in-StuckItem c =
-    rw c.in-StuckItem.is (last_puts true c.args.t 12 (omega arith) c.requires.1 c.requires.0 c.write_fault-in-StuckItem.ensures c.place_after-in-StuckItem.ensures)
+returns-in-Stuck-clause-text c = rw c.in-Stuck.is c.last_line-in-Stuck.ensures.line
 
-pub returns-in-StuckEvent : goal.returns-in-StuckEvent
+pub returns-in-NoMore-clause-text : goal.returns-in-NoMore-clause-text
 unfolding last_text
-returns-in-StuckEvent c =
-    rw c.in-StuckEvent.is (last_puts false c.args.t 12 (omega arith) c.requires.1 c.requires.0 c.write_fault-in-StuckEvent.ensures c.place_after-in-StuckEvent.ensures)
-
-pub returns-in-NoMore : goal.returns-in-NoMore
-unfolding last_text
-returns-in-NoMore c = rw c.in-NoMore.is (last_none _)
+returns-in-NoMore-clause-text c = rw c.in-NoMore.is (puts_none _ 0)

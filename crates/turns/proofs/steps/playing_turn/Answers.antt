@@ -1,16 +1,17 @@
 -- `playing_turn` meets its contract. Assumes nothing.
+use mathlib.Core.Path.{refl}
 use Rattle.turns.specs.Turns.{course_of}
-use Rattle.turns.proofs.One.{turn_waits, playing_none, playing_fault, playing_event}
+use Rattle.turns.proofs.One.{playing_none, playing_fault, playing_event}
 use Rattle.turns.proofs.steps.playing_turn.Goals as goal
 
 pub returns-then-s-eq0 : goal.returns-then-s-eq0
 returns-then-s-eq0 c =
-    rw (playing_none (course_of c.args.t) c.args.s.now c.if-s-eq0.true) (turn_waits c.requires.0 c.wait.ensures)
+    rw (playing_none (course_of c.args.p) c.args.s.now c.if-s-eq0.true) (refl, refl)
 
 pub returns-in-Ok : goal.returns-in-Ok
 returns-in-Ok c =
-    rw (playing_event c.args.t c.args.s.now c.if-s-eq0.false _ _ c.in-Ok.ensures) c.event_turn.ensures
+    rw (playing_event c.args.p c.args.s.now c.if-s-eq0.false _ _ c.in-Ok.ensures) c.event_turn.ensures
 
 pub returns-in-Err : goal.returns-in-Err
 returns-in-Err c =
-    rw (playing_fault c.args.t c.args.s.now c.if-s-eq0.false _ c.in-Err.ensures, ← c.number.ensures) c.fault_turn.ensures
+    rw (playing_fault c.args.p c.args.s.now c.if-s-eq0.false _ c.in-Err.ensures, ← c.number.ensures) c.fault_turn.ensures
