@@ -1,5 +1,5 @@
 -- What making an ensemble gives, of the equations of what it calls. Assumes nothing.
-use Rattle.std.proofs.Common.{◌≡◌, ℕ, zero, suc, ◌<◌, ◌≤◌, Bool, true, false, cond, ◌&&◌, leb, List, [], ◌∷◌, ◌++◌, map, get_or, take, sym, refl, ap, ◌∙◌, subst, ap₂, inl, inr, le_of_suc-le-suc, eq-or-lt_of_le, arith, lit≤, take_all, leb-true, None, Option, Some, Result}
+use Rattle.std.proofs.Common.{◌≡◌, ℕ, zero, suc, ◌<◌, ◌≤◌, Bool, true, false, cond, ◌&&◌, leb, List, [], ◌∷◌, ◌++◌, map, get_or, take, sym, refl, ap, ◌∙◌, subst, ap₂, inl, inr, le_of_suc-le-suc, eq-or-lt_of_le, arith, lit≤, take_all, leb-true, None, Option, Some}
 use mathlib.Core.List.{map-append}
 use lib.Seq.{take-append-le}
 use Rattle.listlaws.specs.Tables.{tabulate}
@@ -11,14 +11,12 @@ use Rattle.slot.proofs.Slots.{new_voice_in}
 use Rattle.ensemble.specs.declared.Member.{Member}
 use Rattle.ensemble.specs.Ensemble.{no_member}
 use Rattle.curves.specs.Given.{is_yes}
-use Rattle.questions.specs.declared.question.Question.{Question}
 use Rattle.questions.proofs.Laws.{and_true}
 use Rattle.calls.specs.State.{State, new_state}
 use Rattle.calls.specs.Calls as calls
 use Rattle.calls.specs.Calls.{by_settings}
 use Rattle.player.specs.declared.Player.{Player}
 use Rattle.player.specs.Player.{state_of as playerState, Valid as PlayerValid}
-use Rattle.player.specs.Promises.{Makes as PlayerMakes, first_player}
 use Rattle.ensemble_calls.specs.Ensembles.{VoiceRecord, seed_of, server_index, new_ensemble}
 use Rattle.ensemble_calls.specs.Calls.{count_for, made}
 use Rattle.ensemble_player.specs.declared.Ensemble.{Ensemble}
@@ -65,10 +63,10 @@ module _ (c : SettingsCodes) (shared count seed : ℕ) where
   abbrev making : Player → List Member → ℕ → Ensemble
   making p members n = record { page = p.page; shared = is_yes shared; count = n; decks = record { server = p.deck; asked = None; members = members } }
 
-  module _ (s : ℕ) (r : Result Player Question) (p : Player) (members : List Member) (n : ℕ) (seeded : s ≡ seed_of seed server_index) (new : PlayerMakes c s r) (first : p ≡ first_player s r)
+  module _ (s : ℕ) (p : Player) (members : List Member) (n : ℕ) (seeded : s ≡ seed_of seed server_index) (new : playerState p ≡ calls.made c s) (valid : PlayerValid p)
       (voices : members ≡ tabulate (λ v. new_member (seed_of seed v)) 16) (counted : n ≡ count_for count) where
     server_is : playerState p ≡ calls.made c (seed_of seed server_index)
-    server_is = ap playerState first ∙ new.state_is ∙ ap (λ (z : ℕ). calls.made c z) seeded
+    server_is = new ∙ ap (λ (z : ℕ). calls.made c z) seeded
 
     pub made_state : state_of (making p members n) ≡ made c shared count seed
     unfolding made new_ensemble
@@ -87,7 +85,7 @@ module _ (c : SettingsCodes) (shared count seed : ℕ) where
     pub made_valid : Valid (making p members n)
     made_valid =
         record {
-          server_valid = subst (λ (q : Player). PlayerValid q) (sym first) new.valid;
+          server_valid = valid;
           listed = rw voices (length_tabulate (λ v. new_member (seed_of seed v)) 16);
           several = rw counted (count_in count).0;
           few = rw counted (count_in count).1;

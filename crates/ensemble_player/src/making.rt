@@ -1,6 +1,8 @@
 // Making an ensemble.
 ghost use Rattle.std.specs.Prelude.{◌≡◌, ◌+◌, ◌^◌, ◌<◌};
 ghost use Rattle.listlaws.specs.Tables.{tabulate};
+ghost use Rattle.calls.specs.Calls as calls;
+ghost use Rattle.player.specs.Player as players;
 ghost use Rattle.ensemble_calls.specs.Ensembles.{seed_of};
 ghost use Rattle.ensemble_calls.specs.Calls.{count_for, made};
 ghost use Rattle.ensemble_player.specs.Ensembles.{state_of, Valid, new_member};
@@ -9,6 +11,7 @@ ghost use Rattle.ensemble_player.specs.Promises.{Makes};
 use super::{Decks, Ensemble, MAX_VOICES};
 use codes::SettingsCodes;
 use ensemble::Member;
+use player::Player;
 use questions::Question;
 use voice::Voice;
 
@@ -56,14 +59,24 @@ fn count_for(count: u64) -> usize
     count as usize
 }
 
+// The player of the serving voice, whatever the codes: of default settings where they are refused.
+fn server_for(c: SettingsCodes, seed: u64) -> Player
+    ensures state { players.state_of result ≡ calls.made c seed }
+    ensures valid { players.Valid result }
+{
+    match player::make(c, seed) {
+        Ok(p) => p,
+        Err(_) => player::default_player(seed),
+    }
+}
+
 // An ensemble for whoever has to have one, whatever the codes: of default settings where they are refused, of two voices where their number is.
 pub fn ensemble_of(c: SettingsCodes, shared: u64, count: u64, seed: u64) -> Ensemble
     ensures state { state_of result ≡ made c shared count seed }
     ensures valid { Valid result }
 {
     let server_seed = seed_of(seed, 0xFFFF_FFFF_FFFF_FFFE);
-    let made = player::make(c, server_seed);
-    let server = made.unwrap_or(player::default_player(server_seed));
+    let server = server_for(c, server_seed);
     Ensemble {
         page: server.page,
         shared: shared == 1,

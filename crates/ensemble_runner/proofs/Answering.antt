@@ -15,8 +15,9 @@ use Rattle.fields.specs.Parser.{Parsed, read}
 use Rattle.ensemble_player.specs.declared.Ensemble.{Ensemble}
 use Rattle.ensemble_player.specs.Ensembles.{state_of, Valid}
 use Rattle.ensemble_player.specs.Promises.{ensemble_after, Changes}
-use Rattle.run_calls.specs.declared.Turn.{Turn}
-use Rattle.run_calls.specs.Turns.{Says, Turns, given_of}
+use Rattle.run_calls.specs.declared.Next.{Next}
+use Rattle.run_calls.specs.declared.Went.{Went}
+use Rattle.run_calls.specs.Turns.{turn_of, Says, Turns, given_of}
 use Rattle.run_calls.proofs.Turning.{answered}
 use Rattle.ensemble_runner.specs.Numbers.{numbers}
 use Rattle.ensemble_runner.specs.Output.{ensembles}
@@ -28,15 +29,16 @@ after_is e (Err q) = refl
 
 pub change_answered : (run : List ℕ) {e : Ensemble} {c : Call} {r : Result Ensemble Question} → Changes e c r
     → numbers (state_of e) c ≡ answer (state_of e) c ∷ [] → {v : Parsed Call} {at : ℕ} → read c at ≡ v
-    → {x : List ℕ} {place : ℕ} {t : Turn Ensemble} {y : List ℕ}
-    → Says x place (answer_of r ∷ []) (Some (record { at = at; player = result_unwrap_or r e })) t y
-    → Turns ensembles state_of Valid run (given_of ensembles state_of e run v) x place t y
-change_answered run {e} {c} {r} w numbers_are is s =
-    answered ensembles state_of Valid run e _ is
+    → {n : Next Ensemble} → n ≡ record { at = at; player = result_unwrap_or r e }
+    → {x : List ℕ} {place : ℕ} {went : Went} {y : List ℕ} → Says x place (answer_of r ∷ []) went y
+    → Turns ensembles state_of Valid run (given_of ensembles state_of e run v) x place (turn_of went (Some n)) y
+change_answered run {e} {c} {r} w numbers_are {at = at} is next s =
+    rw next
+    (answered ensembles state_of Valid run e (record { at = at; player = result_unwrap_or r e }) is
     (numbers_are ∙ ap (λ n. n ∷ []) (sym w.answer_is))
     (sym w.state_is ∙ ap state_of (after_is e r))
     (subst Valid (after_is e r) w.valid)
-    s
+    s)
 
 -- where the phase is read the ensemble stays
 pub phase_stays : (e : EnsembleState) (v : ℕ) (t : TransportCodes) → step e (Calls.phase v t) ≡ e

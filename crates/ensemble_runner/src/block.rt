@@ -9,7 +9,7 @@ ghost use Rattle.ensemble_runner.specs.Promises.{TurnsOn, TurnsBy};
 use codes::TransportCodes;
 use ensemble_player::Ensemble;
 use fields::Fault;
-use run_calls::{Next, Turn, flag, say};
+use run_calls::{Next, Went, flag, say};
 
 // The most elements of a buffer.
 const MOST: usize = 65600;
@@ -44,23 +44,21 @@ fn numbers_of(finished: [bool; MAX_VOICES]) -> [u64; MAX_NUMBERS]
 }
 
 // Plays a block into buffers of 7.0, and writes what it gives.
-fn play(b: Block, from: Next<Ensemble>, out: &mut [u8], place: usize) -> Turn<Ensemble>
-    requires { Valid from.player × (b.x_len ≤ 65600) × (b.y_len ≤ 65600) }
-    ensures { TurnsBy (Calls.block b.transport b.frames (sevens b.x_len) (sevens b.y_len)) from out.old place result out.new }
+fn play(b: Block, from: &mut Next<Ensemble>, out: &mut [u8], place: usize) -> Went
+    requires { Valid from.old.player × (b.x_len ≤ 65600) × (b.y_len ≤ 65600) }
+    ensures { TurnsBy (Calls.block b.transport b.frames (sevens b.x_len) (sevens b.y_len)) from.old out.old place result from.new out.new }
 {
     let mut x = [7.0f32; MOST];
     let mut y = [7.0f32; MOST];
     let x = &mut x[..b.x_len];
     let y = &mut y[..b.y_len];
-    let mut player = from.player;
-    match ensemble_player::play(player, b.transport, b.frames, x, y) {
+    match ensemble_player::play(from.player, b.transport, b.frames, x, y) {
         Ok(r) => {
-            player.decks = r.decks;
+            from.player.decks = r.decks;
             let numbers = numbers_of(r.finished);
-            let next = Next { player, ..from };
-            say(out, place, &numbers[..1 + player.count], x, y, Some(next))
+            say(out, place, &numbers[..1 + from.player.count], x, y)
         }
-        Err(q) => say(out, place, &[q.number() as u64], x, y, Some(from)),
+        Err(q) => say(out, place, &[q.number() as u64], x, y),
     }
 }
 
@@ -68,12 +66,12 @@ fn play(b: Block, from: Next<Ensemble>, out: &mut [u8], place: usize) -> Turn<En
 #[tactic(auto, unfolding(crate::specs::Asked::block_call, fields::specs::Parser::after))]
 pub fn block_turn(
     run: &[u8],
-    from: Next<Ensemble>,
+    from: &mut Next<Ensemble>,
     out: &mut [u8],
     place: usize,
-) -> Result<Turn<Ensemble>, Fault>
-    requires { Valid from.player }
-    ensures { TurnsOn block_call run.now from out.old place result out.new }
+) -> Result<Went, Fault>
+    requires { Valid from.old.player }
+    ensures { TurnsOn block_call run.now from.old out.old place result from.new out.new }
 {
     let (transport, at) = runs::read_transport(run, from.at)?;
     let (frames, at) = fields::read_number(run, at)?;
@@ -85,5 +83,6 @@ pub fn block_turn(
         x_len: x_len as usize,
         y_len: y_len as usize,
     };
-    Ok(play(block, Next { at, ..from }, out, place))
+    from.at = at;
+    Ok(play(block, from, out, place))
 }

@@ -15,7 +15,7 @@ use super::edits::{bus_turn, path_turn, settings_turn, shape_turn, trigger_turn}
 use super::values::phase_turn;
 use ensemble_player::Ensemble;
 use fields::Fault;
-use run_calls::{Calls, Next, Turn, say_number};
+use run_calls::{Calls, Next, Turn, Went, say_number};
 
 // Runs on an ensemble. The clauses of `make` and `call` stand here too: the check gives a method none of its trait's.
 pub struct Ensembles;
@@ -46,8 +46,8 @@ impl Calls for Ensembles {
         let (count, at) = fields::read_number(run, at)?;
         let (seed, at) = fields::read_number(run, at)?;
         match ensemble_player::make(codes, shared, count, seed) {
-            Ok(player) => Ok(say_number(out, 0, 0, Some(Next { at, player }))),
-            Err(q) => Ok(say_number(out, 0, q.number() as u64, None)),
+            Ok(player) => Ok(say_number(out, 0, 0).turn(Some(Next { at, player }))),
+            Err(q) => Ok(say_number(out, 0, q.number() as u64).turn(None)),
         }
     }
 
@@ -55,12 +55,12 @@ impl Calls for Ensembles {
     fn call(
         run: &[u8],
         tag: u64,
-        from: Next<Ensemble>,
+        from: &mut Next<Ensemble>,
         out: &mut [u8],
         place: usize,
-    ) -> Result<Turn<Ensemble>, Fault>
-        requires { Valid from.player }
-        ensures { TurnsOn (get_or by_tag tag none) run.now from out.old place result out.new }
+    ) -> Result<Went, Fault>
+        requires { Valid from.old.player }
+        ensures { TurnsOn (get_or by_tag tag none) run.now from.old out.old place result from.new out.new }
     {
         match tag {
             0 => settings_turn(run, from, out, place),

@@ -5,21 +5,22 @@ ghost use Rattle.ensemble_runner.specs.Promises.{TurnsOn};
 
 use ensemble_player::Ensemble;
 use fields::Fault;
-use run_calls::{Next, Turn, say_value};
+use run_calls::{Next, Went, say_value};
 
 // Reads a voice and a transport, and the voice's phase there.
 #[tactic(auto, unfolding(crate::specs::Asked::phase_call, fields::specs::Parser::after))]
 pub fn phase_turn(
     run: &[u8],
-    from: Next<Ensemble>,
+    from: &mut Next<Ensemble>,
     out: &mut [u8],
     place: usize,
-) -> Result<Turn<Ensemble>, Fault>
-    requires { Valid from.player }
-    ensures { TurnsOn phase_call run.now from out.old place result out.new }
+) -> Result<Went, Fault>
+    requires { Valid from.old.player }
+    ensures { TurnsOn phase_call run.now from.old out.old place result from.new out.new }
 {
     let (voice, at) = fields::read_number(run, from.at)?;
     let (codes, at) = runs::read_transport(run, at)?;
+    from.at = at;
     let phase = ensemble_player::phase(from.player, voice, codes);
-    Ok(say_value(phase, Next { at, ..from }, out, place))
+    Ok(say_value(phase, out, place))
 }

@@ -19,7 +19,8 @@ use Rattle.outputs.proofs.Tags.{tag_then}
 use Rattle.outputs.proofs.Given.{call_ill, make_ill, make_taken, make_refused}
 use Rattle.run_calls.specs.declared.Next.{Next}
 use Rattle.run_calls.specs.declared.Turn.{Turn}
-use Rattle.run_calls.specs.Turns.{turn_of, Says, behind, given_of, Turns, TurnsOn, Begins, Finishes}
+use Rattle.run_calls.specs.declared.Went.{Went}
+use Rattle.run_calls.specs.Turns.{went_of, end_of, turn_of, Says, Ends, behind, given_of, Turns, TurnsOn, Begins, Finishes}
 
 pub one_less : (n turn : ℕ) → turn < n → n - turn ≡ suc (n - (turn + 1))
 one_less n turn h = omega arith
@@ -44,7 +45,7 @@ module _ {P M S A : Type 0} (C : Calling M S A) (state_of : P → S) (Valid : P 
   module _ (run x : List ℕ) (place : ℕ) (l : List ℕ) (next : Option (Next P)) (valid : IfSome next (λ n. Valid n.player)) where
     by_fit : (b : Bool) → fits (length x) place (length (bytes_of l)) ≡ b
         → Turns C state_of Valid run (λ most. l ∷ behind C state_of run next most) x place
-        (turn_of (cond b (Some (place + length (bytes_of l))) None) place next) (cond b (over x place (bytes_of l)) x)
+        (turn_of (went_of (cond b (Some (place + length (bytes_of l))) None) place) next) (cond b (over x place (bytes_of l)) x)
     unfolding fitting
     by_fit true e =
         record {
@@ -58,45 +59,61 @@ module _ {P M S A : Type 0} (C : Calling M S A) (state_of : P → S) (Valid : P 
     by_fit false e =
         record { written = []; bytes = sym (over_none x place); place_is = omega arith; room = λ h. h; rest = λ most. rw e; valid = tt }
 
-    pub said : {t : Turn P} {y : List ℕ} → Says x place l next t y → Turns C state_of Valid run (λ most. l ∷ behind C state_of run next most) x place t y
-    said g = rw (g.turn_is, g.written.answer, g.written.bytes) (by_fit (fits (length x) place (length (bytes_of l))) refl)
+    pub said : {w : Went} {y : List ℕ} → Says x place l w y → Turns C state_of Valid run (λ most. l ∷ behind C state_of run next most) x place (turn_of w next) y
+    said g = rw (g.went_is, g.written.answer, g.written.bytes) (by_fit (fits (length x) place (length (bytes_of l))) refl)
+
+  -- the numbers l, behind which the output ends
+  module _ (run x : List ℕ) (place : ℕ) (l : List ℕ) where
+    ends : (after : Option ℕ) → turn_of {P = P} (went_of after place) None ≡ record { place = end_of after place; next = None }
+    ends (Some after) = refl
+    ends None = refl
+
+    pub ended : {end : ℕ} {y : List ℕ} → Ends x place l end y → Turns C state_of Valid run (λ most. l ∷ []) x place (record { place = end; next = None }) y
+    ended g = rw (g.end_is, ← ends g.after) (said run x place l None tt (record { after = g.after; written = g.written; went_is = refl }))
 
   -- a call whose numbers were written, with what is played after it
-  pub answered : (run : List ℕ) (p : P) (n : Next P) {v : Parsed A} {a : A} {l x : List ℕ} {place : ℕ} {t : Turn P} {y : List ℕ} → read a n.at ≡ v
-      → C.numbers (state_of p) a ≡ l → C.state_after (state_of p) a ≡ state_of n.player → Valid n.player → Says x place l (Some n) t y
-      → Turns C state_of Valid run (given_of C state_of p run v) x place t y
+  pub answered : (run : List ℕ) (p : P) (n : Next P) {v : Parsed A} {a : A} {l x : List ℕ} {place : ℕ} {w : Went} {y : List ℕ} → read a n.at ≡ v
+      → C.numbers (state_of p) a ≡ l → C.state_after (state_of p) a ≡ state_of n.player → Valid n.player → Says x place l w y
+      → Turns C state_of Valid run (given_of C state_of p run v) x place (turn_of w (Some n)) y
   unfolding given_by
   answered run p n {l = l} r numbers_are state_is valid s = same_turns (λ most. rw (← r, numbers_are, state_is)) (said run _ _ l (Some n) valid s)
 
   -- malformed bytes
-  pub call_malformed : (run : List ℕ) (p : P) {v : Parsed A} {f : ℕ} {x : List ℕ} {place : ℕ} {t : Turn P} {y : List ℕ} → fault f ≡ v → Says x place (255 ∷ []) None t y
-      → Turns C state_of Valid run (given_of C state_of p run v) x place t y
-  call_malformed run p r s = same_turns (λ most. call_ill C (state_of p) _ r) (said run _ _ (255 ∷ []) None tt s)
+  pub call_malformed : (run : List ℕ) (p : P) {v : Parsed A} {f : ℕ} {x : List ℕ} {place end : ℕ} {y : List ℕ} → fault f ≡ v → Ends x place (255 ∷ []) end y
+      → Turns C state_of Valid run (given_of C state_of p run v) x place (record { place = end; next = None }) y
+  call_malformed run p r s = same_turns (λ most. call_ill C (state_of p) _ r) (ended run _ _ (255 ∷ []) s)
 
   -- a call behind its tag
   pub behind_tag : (by_tag : List (Parser A)) → C.asked ≡ tagged by_tag → (run : List ℕ) (n : Next P) {tag at : ℕ} → read tag at ≡ number run n.at
-      → (x : List ℕ) (place : ℕ) (r : Result (Turn P) Fault) (y : List ℕ)
-      → TurnsOn C state_of Valid (get_or by_tag tag none) run (record { at = at; player = n.player }) x place r y → TurnsOn C state_of Valid C.asked run n x place r y
-  behind_tag by_tag e run n is x place r y w =
-      subst (λ v. MatchResult r (λ t. Turns C state_of Valid run (given_of C state_of n.player run v) x place t y) (λ f. (fault (fault_number f) ≡ v) × (y ≡ x)))
+      → (x : List ℕ) (place : ℕ) (r : Result Went Fault) (n' : Next P) (y : List ℕ)
+      → TurnsOn C state_of Valid (get_or by_tag tag none) run (record { at = at; player = n.player }) x place r n' y
+      → TurnsOn C state_of Valid C.asked run n x place r n' y
+  behind_tag by_tag e run n is x place r n' y w =
+      subst
+      (λ v. MatchResult r (λ t. Turns C state_of Valid run (given_of C state_of n.player run v) x place (turn_of t (Some n')) y) (λ f. (fault (fault_number f) ≡ v) × (y ≡ x) × (n'.player ≡ n.player)))
       (tag_then by_tag run n.at is ∙ ap (λ (q : Parser A). q run n.at) (sym e)) w
 
   -- ---- the first turn
 
-  module _ (run : List ℕ) {x : List ℕ} {t : Turn P} {y : List ℕ} where
-    pub begins_malformed : {f : ℕ} → fault f ≡ C.make run 0 → Says x 0 (255 ∷ []) None t y → Begins C state_of Valid run x t y
-    begins_malformed r s = record { all = _; given_is = make_ill C run r; turned = said run _ _ (255 ∷ []) None tt s }
+  module _ (run : List ℕ) {x y : List ℕ} where
+    pub begins_malformed : {f end : ℕ} → fault f ≡ C.make run 0 → Ends x 0 (255 ∷ []) end y → Begins C state_of Valid run x (record { place = end; next = None }) y
+    begins_malformed r s = record { all = _; given_is = make_ill C run r; turned = ended run _ _ (255 ∷ []) s }
 
-    pub begins_made : {m : M} {n : Next P} → read m n.at ≡ C.make run 0 → C.make_answer m ≡ 0 → C.made m ≡ state_of n.player → Valid n.player
-        → Says x 0 (0 ∷ []) (Some n) t y → Begins C state_of Valid run x t y
-    begins_made {n = n} r z state_is valid s =
+    pub begins_made : {m : M} (n : Next P) {w : Went} → read m n.at ≡ C.make run 0 → C.make_answer m ≡ 0 → C.made m ≡ state_of n.player → Valid n.player
+        → Says x 0 (0 ∷ []) w y → Begins C state_of Valid run x (turn_of w (Some n)) y
+    begins_made n r z state_is valid s =
         record { all = _; given_is = make_taken C run r z ∙ rw state_is; turned = said run _ _ (0 ∷ []) (Some n) valid s }
 
-    pub begins_refused : {m : M} {at number : ℕ} → read m at ≡ C.make run 0 → number ≡ C.make_answer m → (number ≡ 0 → ⊥)
-        → Says x 0 (number ∷ []) None t y → Begins C state_of Valid run x t y
+    pub begins_refused : {m : M} {at number : ℕ} {w : Went} → read m at ≡ C.make run 0 → number ≡ C.make_answer m → (number ≡ 0 → ⊥)
+        → Says x 0 (number ∷ []) w y → Begins C state_of Valid run x (turn_of w None) y
     begins_refused {number = number} r e z s = record { all = _; given_is = make_refused C run r e z; turned = said run _ _ (number ∷ []) None tt s }
 
   -- ---- the turns
+
+  -- where the run doesn't go on, nothing is written
+  pub finishes_none : (run x : List ℕ) (place left : ℕ) {next : Option (Next P)} → next ≡ None → Finishes (behind C state_of run next left) x place place x
+  unfolding fitting
+  finishes_none run x place left e = rw e (record { place_is = omega arith; bytes = sym (over_none x place) })
 
   -- From x₀, of which `all` was to be written from `start` on, to x: after the turn t at most `left` calls are to be written.
   pub record Goes (run x₀ : List ℕ) (start : ℕ) (all : List (List ℕ)) (x : List ℕ) (t : Turn P) (left : ℕ) : Type 0 where
@@ -105,6 +122,11 @@ module _ {P M S A : Type 0} (C : Calling M S A) (state_of : P → S) (Valid : P 
     pub end : t.place + length (fitting (length x₀) t.place (behind C state_of run t.next left)) ≡ start + length (fitting (length x₀) start all)
     pub room : t.place ≤ length x₀
     pub valid : IfSome t.next (λ n. Valid n.player)
+
+  -- as the turns begin
+  pub goes_first : (run x : List ℕ) (place : ℕ) (n : Next P) → place ≤ length x → Valid n.player
+      → Goes run x place (behind C state_of run (Some n) (length run)) x (record { place = place; next = Some n }) (length run)
+  goes_first run x place n room valid = record { long = refl; bytes = refl; end = refl; room = room; valid = valid }
 
   module _ {run x₀ : List ℕ} {start : ℕ} {all : List (List ℕ)} {x : List ℕ} {t : Turn P} {left : ℕ} (g : Goes run x₀ start all x t left) where
     -- no call is left

@@ -8,17 +8,35 @@ use Rattle.replies.specs.Replies.{fitting, WritesAll}
 use Rattle.outputs.specs.Output.{Calling, given_by, given, given_from}
 use Rattle.run_calls.specs.declared.Next.{Next}
 use Rattle.run_calls.specs.declared.Turn.{Turn}
+use Rattle.run_calls.specs.declared.Went.{Went}
+use Rattle.run_calls.specs.declared.Went.TheVariants.{On, Ended}
 
--- where the numbers were written, the run goes on at `next`; where they had no room the output ends
-abbrev pub turn_of : {P : Type 0} → Option ℕ → ℕ → Option (Next P) → Turn P
-turn_of (Some after) place next = record { place = after; next = next }
-turn_of None place next = record { place = place; next = None }
+-- where the numbers were written the output goes on behind them; where they had no room it ends
+abbrev pub went_of : Option ℕ → ℕ → Went
+went_of (Some after) place = On after
+went_of None place = Ended place
+
+-- where it ends, if nothing comes behind them
+abbrev pub end_of : Option ℕ → ℕ → ℕ
+end_of (Some after) place = after
+end_of None place = place
+
+-- where the output goes on, the run goes on at `next`
+abbrev pub turn_of : {P : Type 0} → Went → Option (Next P) → Turn P
+turn_of (On place) next = record { place = place; next = next }
+turn_of (Ended place) next = record { place = place; next = None }
 
 -- the numbers l written at the place `place` of x, all of them or none
-pub record Says {P : Type 0} (x : List ℕ) (place : ℕ) (l : List ℕ) (next : Option (Next P)) (t : Turn P) (y : List ℕ) : Type 0 where
+pub record Says (x : List ℕ) (place : ℕ) (l : List ℕ) (w : Went) (y : List ℕ) : Type 0 where
   pub after : Option ℕ
   pub written : WritesAll x place l after y
-  pub turn_is : t ≡ turn_of after place next
+  pub went_is : w ≡ went_of after place
+
+-- the same, and the output ends behind them
+pub record Ends (x : List ℕ) (place : ℕ) (l : List ℕ) (end : ℕ) (y : List ℕ) : Type 0 where
+  pub after : Option ℕ
+  pub written : WritesAll x place l after y
+  pub end_is : end ≡ end_of after place
 
 module _ {P M S A : Type 0} (C : Calling M S A) (state_of : P → S) where
   -- what the calls from here on give, of which `most` are looked at; nothing where the output ends
@@ -40,16 +58,17 @@ module _ {P M S A : Type 0} (C : Calling M S A) (state_of : P → S) (Valid : P 
     pub rest : (most : ℕ) → fitting (length x) place (all most) ≡ written ++ fitting (length x) t.place (behind C state_of run t.next most)
     pub valid : IfSome t.next (λ n. Valid n.player)
 
-  -- a turn of a call that is read from the place n.at on; where there is a fault in its bytes nothing is written
-  abbrev pub TurnsOn : Parser A → List ℕ → Next P → List ℕ → ℕ → Result (Turn P) Fault → List ℕ → Type 0
-  TurnsOn q run n x place r y =
+  -- A turn of a call that is read from the place n.at on, and leaves n as n'. Where there is a fault in its bytes nothing is written, and what is played stays.
+  abbrev pub TurnsOn : Parser A → List ℕ → Next P → List ℕ → ℕ → Result Went Fault → Next P → List ℕ → Type 0
+  TurnsOn q run n x place r n' y =
       MatchResult r
-      (λ t. Turns run (given_of C state_of n.player run (q run n.at)) x place t y)
-      (λ f. (fault (fault_number f) ≡ q run n.at) × (y ≡ x))
+      (λ w. Turns run (given_of C state_of n.player run (q run n.at)) x place (turn_of w (Some n')) y)
+      (λ f. (fault (fault_number f) ≡ q run n.at) × (y ≡ x) × (n'.player ≡ n.player))
 
-  -- a turn of the call a, behind which the run goes on at n.at
-  abbrev pub TurnsBy : A → Next P → List ℕ → ℕ → Turn P → List ℕ → Type 0
-  TurnsBy a n x place t y = (run : List ℕ) → Turns run (given_of C state_of n.player run (read a n.at)) x place t y
+  -- a turn of the call a, behind which the run goes on at n.at; it leaves n as n'
+  abbrev pub TurnsBy : A → Next P → List ℕ → ℕ → Went → Next P → List ℕ → Type 0
+  TurnsBy a n x place w n' y =
+      (run : List ℕ) → Turns run (given_of C state_of n.player run (read a n.at)) x place (turn_of w (Some n')) y
 
   -- the first turn, which makes what is played; `all` is what the run gives
   pub record Begins (run x : List ℕ) (t : Turn P) (y : List ℕ) : Type 0 where

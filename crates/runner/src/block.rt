@@ -8,7 +8,7 @@ ghost use Rattle.runner.specs.Promises.{TurnsOn, TurnsBy};
 use codes::{RestartCodes, TransportCodes};
 use fields::Fault;
 use player::Player;
-use run_calls::{Next, Turn, flag, say};
+use run_calls::{Next, Went, flag, say};
 
 // The most elements of a buffer.
 const MOST: usize = 8192;
@@ -27,22 +27,21 @@ struct Block {
 }
 
 // Plays a block into buffers of 7.0, and writes what it gives.
-fn play(b: Block, from: Next<Player>, out: &mut [u8], place: usize) -> Turn<Player>
-    requires { Valid from.player × (b.x_len ≤ 8192) × (b.y_len ≤ 8192) }
-    ensures { TurnsBy (block_asked b.transport b.frames b.restart (sevens b.x_len) (sevens b.y_len)) from out.old place result out.new }
+fn play(b: Block, from: &mut Next<Player>, out: &mut [u8], place: usize) -> Went
+    requires { Valid from.old.player × (b.x_len ≤ 8192) × (b.y_len ≤ 8192) }
+    ensures { TurnsBy (block_asked b.transport b.frames b.restart (sevens b.x_len) (sevens b.y_len)) from.old out.old place result from.new out.new }
 {
     let mut x = [7.0f32; MOST];
     let mut y = [7.0f32; MOST];
     let x = &mut x[..b.x_len];
     let y = &mut y[..b.y_len];
-    let mut player = from.player;
-    match player::play(player, b.transport, b.frames, b.restart, x, y) {
+    match player::play(from.player, b.transport, b.frames, b.restart, x, y) {
         Ok(r) => {
-            player.deck = r.deck;
+            from.player.deck = r.deck;
             let numbers = [0, flag(r.finished)];
-            say(out, place, &numbers, x, y, Some(Next { player, ..from }))
+            say(out, place, &numbers, x, y)
         }
-        Err(q) => say(out, place, &[q.number() as u64], x, y, Some(from)),
+        Err(q) => say(out, place, &[q.number() as u64], x, y),
     }
 }
 
@@ -50,12 +49,12 @@ fn play(b: Block, from: Next<Player>, out: &mut [u8], place: usize) -> Turn<Play
 #[tactic(auto, unfolding(crate::specs::Asked::block_call, fields::specs::Parser::after))]
 pub fn block_turn(
     run: &[u8],
-    from: Next<Player>,
+    from: &mut Next<Player>,
     out: &mut [u8],
     place: usize,
-) -> Result<Turn<Player>, Fault>
-    requires { Valid from.player }
-    ensures { TurnsOn block_call run.now from out.old place result out.new }
+) -> Result<Went, Fault>
+    requires { Valid from.old.player }
+    ensures { TurnsOn block_call run.now from.old out.old place result from.new out.new }
 {
     let (transport, at) = runs::read_transport(run, from.at)?;
     let (frames, at) = fields::read_number(run, at)?;
@@ -69,5 +68,6 @@ pub fn block_turn(
         x_len: x_len as usize,
         y_len: y_len as usize,
     };
-    Ok(play(block, Next { at, ..from }, out, place))
+    from.at = at;
+    Ok(play(block, from, out, place))
 }

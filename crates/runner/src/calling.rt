@@ -15,7 +15,7 @@ use super::legs::legs_turn;
 use super::values::{path_at_turn, phase_turn, shape_at_turn};
 use fields::Fault;
 use player::Player;
-use run_calls::{Calls, Next, Turn, say_number};
+use run_calls::{Calls, Next, Turn, Went, say_number};
 
 // Runs on a player. The clauses of `make` and `call` stand here too: the check gives a method none of its trait's.
 pub struct Players;
@@ -44,8 +44,8 @@ impl Calls for Players {
         let (codes, at) = runs::read_settings(run, 0)?;
         let (seed, at) = fields::read_number(run, at)?;
         match player::make(codes, seed) {
-            Ok(player) => Ok(say_number(out, 0, 0, Some(Next { at, player }))),
-            Err(q) => Ok(say_number(out, 0, q.number() as u64, None)),
+            Ok(player) => Ok(say_number(out, 0, 0).turn(Some(Next { at, player }))),
+            Err(q) => Ok(say_number(out, 0, q.number() as u64).turn(None)),
         }
     }
 
@@ -53,12 +53,12 @@ impl Calls for Players {
     fn call(
         run: &[u8],
         tag: u64,
-        from: Next<Player>,
+        from: &mut Next<Player>,
         out: &mut [u8],
         place: usize,
-    ) -> Result<Turn<Player>, Fault>
-        requires { Valid from.player }
-        ensures { TurnsOn (get_or by_tag tag none) run.now from out.old place result out.new }
+    ) -> Result<Went, Fault>
+        requires { Valid from.old.player }
+        ensures { TurnsOn (get_or by_tag tag none) run.now from.old out.old place result from.new out.new }
     {
         match tag {
             0 => settings_turn(run, from, out, place),

@@ -15,7 +15,7 @@ use lib.Ieee.{Float}
 use Rattle.floatlaws.specs.Numbers.{f32_0}
 use Rattle.listlaws.proofs.Over.{over_none}
 use Rattle.number.specs.declared.Fault.TheVariants.{CutShort}
-use Rattle.std.specs.Prelude.{Option, Ok, Err}
+use Rattle.std.specs.Prelude.{Option, None, Ok, Err}
 use Rattle.number.specs.Read.{Reading, leading, read_at}
 use Rattle.fields.specs.Parser.{read, fault}
 use Rattle.streams.proofs.Parsers.{all_leads, ends}
@@ -44,6 +44,7 @@ use Rattle.sittings.specs.declared.Event.{Event}
 use Rattle.sittings.specs.declared.Event.TheVariants.{Block, Restart, Bus, End}
 use Rattle.turns.specs.declared.Playback.{Playback}
 use Rattle.turns.specs.declared.Sitting.{Sitting}
+use Rattle.turns.specs.declared.Ended.{Ended}
 use Rattle.turns.specs.declared.Turned.{Turned}
 use Rattle.sittings.specs.Events.{event}
 use Rattle.sittings.specs.Courses.{Course, no_restart, moved_on, silence, block_of, block_values, block_lines, after_block, after_restart, after_bus}
@@ -54,12 +55,12 @@ use Rattle.item_calls.specs.Calls.{item_state}
 use Rattle.sittings.specs.Sheets.{failed, started}
 use Rattle.sittings.specs.Windows.{BeingRead, the_item, the_event, fault_line, playing, closing, stuck, wants, went, fault_turn, event_turn, read_turn, playing_turn, closing_turn, stuck_turn, item_turn, turn, last_text}
 use Rattle.sittings.specs.Windows as Windows
-use Rattle.turns.specs.Turns.{course_of, first_playback, restarted, stage_of, index_of, next_sitting, ValidSitting, place_after, turn_room, Went}
+use Rattle.turns.specs.Turns.{course_of, first_playback, restarted, stage_of, index_of, next_sitting, ValidSitting, place_after, turn_room, settled, Went}
 
 module _ {index : ℕ} {out : List ℕ} {place : ℕ} (room : place + turn_room ≤ length out) where
-  pub turn_goes : (s : Sitting) → index_of s ≤ suc index → ValidSitting s → (taken : ℕ) {r : Turned}
-      → r ≡ record { sitting = s; taken = taken; place = place } → Went index (went [] taken (stage_of s)) out place r out
-  turn_goes s counts valid taken e =
+  pub turn_goes : (t : Sitting) (d : Option Ended) → index_of (settled d t) ≤ suc index → ValidSitting (settled d t) → (taken : ℕ) {r : Turned}
+      → r ≡ record { ended = d; taken = taken; place = place } → Went index (went [] taken (stage_of (settled d t))) out place t r out
+  turn_goes t d counts valid taken e =
       rw e
       (record {
         text = [];
@@ -72,9 +73,9 @@ module _ {index : ℕ} {out : List ℕ} {place : ℕ} (room : place + turn_room 
       })
 
   pub turn_writes : {text : List ℕ} {w : Option ℕ} {out' : List ℕ} → Writes out place text w out' → length text ≤ turn_room
-      → (s : Sitting) → index_of s ≤ suc index → ValidSitting s → (taken : ℕ) {r : Turned}
-      → r ≡ record { sitting = s; taken = taken; place = place_after w place } → Went index (went text taken (stage_of s)) out place r out'
-  turn_writes {text} w short s counts valid taken e =
+      → (t : Sitting) (d : Option Ended) → index_of (settled d t) ≤ suc index → ValidSitting (settled d t) → (taken : ℕ) {r : Turned}
+      → r ≡ record { ended = d; taken = taken; place = place_after w place } → Went index (went text taken (stage_of (settled d t))) out place t r out'
+  turn_writes {text} w short t d counts valid taken e =
       let fit : place + length text ≤ length out = omega (arith, room) in
       let done = wrote w fit in
       rw (e, done.0)
@@ -170,15 +171,15 @@ module _ (p : Playback) (frames taken : ℕ) (x y : List Float) (hx : length x �
     pub block_turned : length x' ≡ length x → length y' ≡ length y → {out : List ℕ} {place : ℕ} → place + turn_room ≤ length out → {v : Option ℕ} {out' : List ℕ}
         → Writes out place (lines p.player.deck.played (take frames x') (take frames y')) v out'
         → {moved : TransportCodes} → moved ≡ moved_on p.transport frames → {next : ℕ} → next ≡ place_after v place
-        → {q : Turned} → q ≡ record { sitting = next_sitting (after_played p r.deck moved); taken = taken; place = next }
-        → Went p.index (event_turn (course_of p) (Block frames) taken) out place q out'
-    block_turned ex ey space written m n q_is =
+        → {q : Turned} → q ≡ record { ended = None; taken = taken; place = next } → {t : Sitting} → t ≡ next_sitting (after_played p r.deck moved)
+        → Went p.index (event_turn (course_of p) (Block frames) taken) out place t q out'
+    block_turned ex ey space written m n q_is t_is =
         let fit = block_fits ex ey in
         let size = lines_length frames p.player.deck.played x' y' fit.0 fit.1 in
         let short : length (block_lines (course_of p) frames) ≤ turn_room =
         rw (← block_lines_lem) (omega (arith, size, lines_most frames p.player.deck.played fit.3, block_facts.short)) in
-        rw block_goes
-        (turn_writes space (rw block_lines_lem at written) short (next_sitting (after_played p r.deck (moved_on p.transport frames))) (omega arith) w.valid taken (rw (m, n) at q_is))
+        rw (block_goes, t_is, m)
+        (turn_writes space (rw block_lines_lem at written) short (next_sitting (after_played p r.deck (moved_on p.transport frames))) None (omega arith) w.valid taken (rw n at q_is))
 
 module _ (p : Playback) (k : ℕ) (value : Float) (taken : ℕ) where
   pub bus_fails : {q : Question} → Changes p.player (bus k value) (Err q) → {n : ℕ} → n ≡ question_number q

@@ -29,7 +29,7 @@ use Rattle.sittings.specs.Events.{event}
 use Rattle.sittings.specs.Courses.{Course, block_of}
 use Rattle.sittings.specs.Windows.{BeingRead, the_item, the_event, most_of, fault_line, Stage, opening, playing, closing, stuck, Turn, wants, went, fault_turn, event_turn, read_turn, playing_turn, closing_turn, stuck_turn, item_turn, turn, Goes}
 use Rattle.sittings.specs.Windows as Windows
-use Rattle.turns.specs.Turns.{stage_of, index_of, ValidSitting, is_over, Went, OneTurn, Running, SomeTurns}
+use Rattle.turns.specs.Turns.{stage_of, index_of, ValidSitting, is_over, settled, Went, OneTurn, Running, SomeTurns}
 use Rattle.sittings.proofs.Reading.{event_ahead}
 use Rattle.sittings.proofs.Pieces.{goes_none, goes_on, turns_right}
 
@@ -149,24 +149,24 @@ module _ {t : Sitting} {l out₀ : List ℕ} (g : Running t l out₀) where
         let none : drop at l ≡ [] = drop_of_length-le l h in
         stopped (rw none (at_end (stage_of s)))
 
-    pub ran_waits : {out' : List ℕ} → OneTurn (index_of s) (turn (stage_of s) (drop at l)) out place None out'
-        → SomeTurns t l out₀ (record { sitting = s; taken = at; written = place; full = false }) out'
-    ran_waits w = rw w.1 (stopped (inr w.0))
+    pub ran_waits : {s' : Sitting} {out' : List ℕ} → OneTurn (index_of s) (turn (stage_of s) (drop at l)) s out place None s' out'
+        → SomeTurns t l out₀ (record { sitting = s'; taken = at; written = place; full = false }) out'
+    ran_waits w = rw (w.1, w.2) (stopped (inr w.0))
 
-    module _ {r : Turned} {out' : List ℕ} (w : Went (index_of s) (turn (stage_of s) (drop at l)) out place r out') where
+    module _ {s' : Sitting} {r : Turned} {out' : List ℕ} (w : Went (index_of s) (turn (stage_of s) (drop at l)) out place s' r out') where
       took : 0 < length (drop at l) → 0 < r.taken
       unfolding Ahead
       took = subst (Ahead (drop at l)) w.turn_is (ahead (stage_of s) (drop at l))
 
-      right : Goes (stage_of s) (drop at l) w.text (stage_of r.sitting) (drop r.taken (drop at l)) × (r.taken ≤ length (drop at l))
-      right = turns_right (stage_of s) (drop at l) w.text r.taken (stage_of r.sitting) w.turn_is
+      right : Goes (stage_of s) (drop at l) w.text (stage_of (settled r.ended s')) (drop r.taken (drop at l)) × (r.taken ≤ length (drop at l))
+      right = turns_right (stage_of s) (drop at l) w.text r.taken (stage_of (settled r.ended s')) w.turn_is
 
       pub ran_ahead : at < length l → (0 < r.taken) × (at + r.taken ≤ length l)
       ran_ahead some =
           let in_l = right.1 in
           (took (omega (arith, length-drop at l)), omega (arith, length-drop at l, n.inside))
 
-      pub ran_on : at < length l → Ran t l out₀ r.sitting (at + r.taken) r.place out'
+      pub ran_on : at < length l → Ran t l out₀ (settled r.ended s') (at + r.taken) r.place out'
       ran_on some =
           let far = ran_ahead some in
           let left : drop r.taken (drop at l) ≡ drop (at + r.taken) l = drop-drop r.taken at l in

@@ -9,6 +9,7 @@ use Rattle.turns.specs.declared.Part.{Part}
 use Rattle.turns.specs.declared.Part.TheVariants.{Item, Event}
 use Rattle.turns.specs.declared.Sitting.{Sitting}
 use Rattle.turns.specs.declared.Sitting.TheVariants.{Opening, Playing, Closing, Stuck, NoMore}
+use Rattle.turns.specs.declared.Ended.{Ended}
 use Rattle.turns.specs.declared.Turned.{Turned}
 use Rattle.turns.specs.declared.Step.{Step}
 use Rattle.sittings.specs.Courses.{Course, no_restart, restart_at}
@@ -76,26 +77,40 @@ place_after None place = place
 abbrev pub turn_room : ℕ
 turn_room = 159744
 
+-- the sitting after a turn that left t: t itself, or the stage that the turn ends in
+abbrev pub settled : Option Ended → Sitting → Sitting
+settled None t = t
+settled (Some (Ended.Closing index)) t = Closing index
+settled (Some (Ended.Stuck part)) t = Stuck part
+settled (Some Ended.NoMore) t = NoMore
+
 -- what a turn asks: a player, room behind `place`, and that the events can be counted
 pub record Going (t : Sitting) (out : List ℕ) (place : ℕ) : Type 0 where
   pub valid : ValidSitting t
   pub room : place + turn_room ≤ length out
   pub few : suc (index_of t) < 2 ^ 64
 
--- From a sitting at the event `index` the code goes on by this turn: r says so, and its text stands in the buffer from `place` on.
-pub record Went (index : ℕ) (made : Turn) (out : List ℕ) (place : ℕ) (r : Turned) (out' : List ℕ) : Type 0 where
+-- From a sitting at the event `index`, and leaving t, the code goes on by this turn: r says so, and its text stands in the buffer from `place` on.
+pub record Went (index : ℕ) (made : Turn) (out : List ℕ) (place : ℕ) (t : Sitting) (r : Turned) (out' : List ℕ) : Type 0 where
   pub text : List ℕ
-  pub turn_is : made ≡ went text r.taken (stage_of r.sitting)
+  pub turn_is : made ≡ went text r.taken (stage_of (settled r.ended t))
   pub bytes : out' ≡ over out place text
   pub place_is : r.place ≡ place + length text
   pub room : place + length text ≤ length out
-  pub counts : index_of r.sitting ≤ suc index
-  pub valid : ValidSitting r.sitting
+  pub counts : index_of (settled r.ended t) ≤ suc index
+  pub valid : ValidSitting (settled r.ended t)
 
--- From a sitting at the event `index` the code makes this turn: more bytes are wanted, and nothing has changed; or it goes on.
-abbrev pub OneTurn : ℕ → Turn → List ℕ → ℕ → Option Turned → List ℕ → Type 0
-OneTurn index made out place None out' = (made ≡ wants) × (out' ≡ out)
-OneTurn index made out place (Some r) out' = Went index made out place r out'
+-- From the sitting t at the event `index` the code makes this turn: more bytes are wanted, and nothing has changed; or it goes on.
+abbrev pub OneTurn : ℕ → Turn → Sitting → List ℕ → ℕ → Option Turned → Sitting → List ℕ → Type 0
+OneTurn index made t out place None t' out' = (made ≡ wants) × (t' ≡ t) × (out' ≡ out)
+OneTurn index made t out place (Some r) t' out' = Went index made out place t' r out'
+
+-- the same of a turn that is not lent the sitting, whichever it is
+abbrev pub Ends : ℕ → Turn → List ℕ → ℕ → Turned → List ℕ → Type 0
+Ends index made out place r out' = (t : Sitting) → Went index made out place t r out'
+
+abbrev pub OneEnd : ℕ → Turn → List ℕ → ℕ → Option Turned → List ℕ → Type 0
+OneEnd index made out place r out' = (t : Sitting) → OneTurn index made t out place r t out'
 
 -- After some turns, from the sitting t with the bytes l: what was printed stands in the buffer, and the rest of the bytes is still to be read.
 pub record SomeTurns (t : Sitting) (l out : List ℕ) (r : Step) (out' : List ℕ) : Type 0 where

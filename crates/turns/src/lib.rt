@@ -47,10 +47,19 @@ pub enum Sitting {
     NoMore,
 }
 
-// What a turn did: it took so many bytes, printed up to a place, and left this sitting.
+// The stage that a turn ends in, where no player goes on.
+#[derive(Clone, Copy)]
+pub enum Ended {
+    Closing(u64),
+    Stuck(Part),
+    NoMore,
+}
+
+// What a turn did: it took so many bytes and printed up to a place. A sitting with a player is changed where it stands, since a player is large; any other stage is put into
+// its place afterwards.
 #[derive(Clone, Copy)]
 pub struct Turned {
-    pub sitting: Sitting,
+    pub ended: Option<Ended>,
     pub taken: usize,
     pub place: usize,
 }

@@ -6,9 +6,9 @@ ghost use Rattle.text.specs.Write.{Puts};
 ghost use Rattle.record.specs.Records.{accepted_item};
 ghost use Rattle.sittings.specs.Windows.{fault_line, playing, went, fault_turn, event_turn, playing_turn, closing_turn, stuck_turn, item_turn, last_text};
 ghost use Rattle.sittings.specs.Windows as windows;
-ghost use Rattle.turns.specs.Turns.{course_of, first_playback, stage_of, index_of, index_in, being_read, restarted, next_sitting, place_after, turn_room, Going, Went, OneTurn, Running, SomeTurns};
+ghost use Rattle.turns.specs.Turns.{course_of, first_playback, stage_of, index_of, index_in, being_read, restarted, next_sitting, place_after, turn_room, settled, Going, Went, OneTurn, Ends, OneEnd, Running, SomeTurns};
 
-use super::{Part, Playback, Sitting, Step, Turned};
+use super::{Ended, Part, Playback, Sitting, Step, Turned};
 use codes::{RestartCodes, TransportCodes};
 use number::Fault;
 use player::Player;
@@ -24,12 +24,12 @@ fn place_after(w: Option<usize>, place: usize) -> usize
     w.unwrap_or(place)
 }
 
-// So many bytes are taken, what is printed ends at `place`, and the sitting goes on from here.
-fn go(sitting: Sitting, taken: usize, place: usize) -> Turned
-    ensures { result ≡ record { sitting = sitting; taken = taken; place = place } }
+// So many bytes are taken, what is printed ends at `place`, and the stage ends or goes on.
+fn go(ended: Option<Ended>, taken: usize, place: usize) -> Turned
+    ensures { result ≡ record { ended = ended; taken = taken; place = place } }
 {
     Turned {
-        sitting,
+        ended,
         taken,
         place,
     }
@@ -38,21 +38,21 @@ fn go(sitting: Sitting, taken: usize, place: usize) -> Turned
 // The line of a fault ends the sitting.
 fn fail(part: Part, n: u8, taken: usize, out: &mut [u8], place: usize) -> Turned
     requires { place + turn_room ≤ length out.old }
-    ensures { Went (index_in part) (went (fault_line (being_read part) n) taken windows.no_more) out.old place result out.new }
+    ensures { Ends (index_in part) (went (fault_line (being_read part) n) taken windows.no_more) out.old place result out.new }
 {
     let w = part.write_fault(n, out, place);
-    go(Sitting::NoMore, taken, place_after(w, place))
+    go(Some(Ended::NoMore), taken, place_after(w, place))
 }
 
 // A fault in the item or in the event that is read from `s`: by its number, which the sheet prints and which both kinds of refusal have.
 fn fault_turn(part: Part, s: &[u8], n: u8, out: &mut [u8], place: usize) -> Option<Turned>
     requires { place + turn_room ≤ length out.old }
-    ensures { OneTurn (index_in part) (fault_turn (being_read part) s.now n) out.old place result out.new }
+    ensures { OneEnd (index_in part) (fault_turn (being_read part) s.now n) out.old place result out.new }
 {
     let len = s.len();
     if n == 12 {
         if part.most() < len {
-            return Some(go(Sitting::Stuck(part), len, place));
+            return Some(go(Some(Ended::Stuck(part)), len, place));
         }
         return None;
     }
@@ -61,6 +61,7 @@ fn fault_turn(part: Part, s: &[u8], n: u8, out: &mut [u8], place: usize) -> Opti
 
 // An item that was accepted, of which so many bytes are taken: the header is written, and the sitting goes on with the item's player from the item's transport.
 fn start_turn(
+    t: &mut Sitting,
     player: Player,
     transport: TransportCodes,
     taken: usize,
@@ -68,40 +69,31 @@ fn start_turn(
     place: usize,
 ) -> Turned
     requires { (place + turn_room ≤ length out.old) × Valid player }
-    ensures { Went 0 (went header taken (playing (course_of (first_playback player transport)))) out.old place result out.new }
+    ensures { Went 0 (went header taken (playing (course_of (first_playback player transport)))) out.old place t.new result out.new }
 {
     let w = text::write_header(out, place);
     let waiting = RestartCodes { code: 0, frame: 0 };
-    Turned {
-        sitting: Sitting::Playing(Playback {
-            player,
-            transport,
-            waiting,
-            index: 0,
-        }),
-        taken,
-        place: place_after(w, place),
-    }
+    *t = Sitting::Playing(Playback {
+        player,
+        transport,
+        waiting,
+        index: 0,
+    });
+    go(None, taken, place_after(w, place))
 }
 
 // Goes on after an event.
-fn go_on(p: Playback, taken: usize, place: usize) -> Turned
-    requires { suc p.index < 2 ^ 64 }
-    ensures { result ≡ record { sitting = next_sitting p; taken = taken; place = place } }
+fn go_on(p: &mut Playback, taken: usize, place: usize) -> Turned
+    requires { suc p.old.index < 2 ^ 64 }
+    ensures { (result ≡ record { ended = None; taken = taken; place = place }) × (Sitting.Playing p.new ≡ next_sitting p.old) }
 {
-    Turned {
-        sitting: Sitting::Playing(Playback {
-            index: p.index + 1,
-            ..p
-        }),
-        taken,
-        place,
-    }
+    p.index += 1;
+    go(None, taken, place)
 }
 
 // A block is played, and its lines are written.
 fn block_turn(
-    p: Playback,
+    p: &mut Playback,
     frames: u64,
     taken: usize,
     x: &mut [f32],
@@ -109,52 +101,57 @@ fn block_turn(
     out: &mut [u8],
     place: usize,
 ) -> Turned
-    requires { Going (Sitting.Playing p) out.old place × (length x.old ≡ 4096) × (length y.old ≡ 4096) }
-    ensures { Went p.index (event_turn (course_of p) (Event.Block frames) taken) out.old place result out.new }
+    requires { Going (Sitting.Playing p.old) out.old place × (length x.old ≡ 4096) × (length y.old ≡ 4096) }
+    ensures { Went p.old.index (event_turn (course_of p.old) (Event.Block frames) taken) out.old place (Sitting.Playing p.new) result out.new }
 {
-    let mut player = p.player;
-    let first = player.deck.played;
-    match player::play(player, p.transport, frames, p.waiting, x, y) {
+    let first = p.player.deck.played;
+    match player::play(p.player, p.transport, frames, p.waiting, x, y) {
         Ok(r) => {
             let n = frames as usize;
             let w = text::write_lines(out, place, first, &x[..n], &y[..n]);
-            player.deck = r.deck;
             let none = RestartCodes { code: 0, frame: 0 };
-            let next = Playback {
-                player,
-                transport: moved_on(p.transport, frames),
-                waiting: none,
-                index: p.index,
-            };
-            go_on(next, taken, place_after(w, place))
+            p.player.deck = r.deck;
+            p.transport = moved_on(p.transport, frames);
+            p.waiting = none;
+            go_on(p, taken, place_after(w, place))
         }
         Err(question) => fail(Part::Event(p.index), question.number(), taken, out, place),
     }
 }
 
 // A restart waits for the next block.
-fn restart_turn(p: Playback, frame: u64, taken: usize, place: usize) -> Turned
-    requires { suc p.index < 2 ^ 64 }
-    ensures { result ≡ record { sitting = next_sitting (restarted p frame); taken = taken; place = place } }
+fn restart_turn(p: &mut Playback, frame: u64, taken: usize, place: usize) -> Turned
+    requires { suc p.old.index < 2 ^ 64 }
+    ensures { (result ≡ record { ended = None; taken = taken; place = place }) × (Sitting.Playing p.new ≡ next_sitting (restarted p.old frame)) }
 {
-    let waiting = RestartCodes { code: 1, frame };
-    go_on(Playback { waiting, ..p }, taken, place)
+    p.waiting = RestartCodes { code: 1, frame };
+    go_on(p, taken, place)
 }
 
 // A bus is moved.
-fn bus_turn(p: Playback, bus: u64, value: f32, taken: usize, out: &mut [u8], place: usize) -> Turned
-    requires { Going (Sitting.Playing p) out.old place }
-    ensures { Went p.index (event_turn (course_of p) (Event.Bus bus value) taken) out.old place result out.new }
+fn bus_turn(
+    p: &mut Playback,
+    bus: u64,
+    value: f32,
+    taken: usize,
+    out: &mut [u8],
+    place: usize,
+) -> Turned
+    requires { Going (Sitting.Playing p.old) out.old place }
+    ensures { Went p.old.index (event_turn (course_of p.old) (Event.Bus bus value) taken) out.old place (Sitting.Playing p.new) result out.new }
 {
     match player::set_bus(p.player, bus, value) {
-        Ok(player) => go_on(Playback { player, ..p }, taken, place),
+        Ok(player) => {
+            p.player = player;
+            go_on(p, taken, place)
+        }
         Err(question) => fail(Part::Event(p.index), question.number(), taken, out, place),
     }
 }
 
 // An event that takes so many bytes.
 fn event_turn(
-    p: Playback,
+    p: &mut Playback,
     e: Event,
     taken: usize,
     x: &mut [f32],
@@ -162,28 +159,28 @@ fn event_turn(
     out: &mut [u8],
     place: usize,
 ) -> Turned
-    requires { Going (Sitting.Playing p) out.old place × (length x.old ≡ 4096) × (length y.old ≡ 4096) }
-    ensures { Went p.index (event_turn (course_of p) e taken) out.old place result out.new }
+    requires { Going (Sitting.Playing p.old) out.old place × (length x.old ≡ 4096) × (length y.old ≡ 4096) }
+    ensures { Went p.old.index (event_turn (course_of p.old) e taken) out.old place (Sitting.Playing p.new) result out.new }
 {
     match e {
         Event::Block(frames) => block_turn(p, frames, taken, x, y, out, place),
         Event::Restart(frame) => restart_turn(p, frame, taken, place),
         Event::Bus(bus, value) => bus_turn(p, bus, value, taken, out, place),
-        Event::End => go(Sitting::Closing(p.index), taken, place),
+        Event::End => go(Some(Ended::Closing(p.index)), taken, place),
     }
 }
 
 // Before an event.
 fn playing_turn(
-    p: Playback,
+    p: &mut Playback,
     s: &[u8],
     x: &mut [f32],
     y: &mut [f32],
     out: &mut [u8],
     place: usize,
 ) -> Option<Turned>
-    requires { Going (Sitting.Playing p) out.old place × (length x.old ≡ 4096) × (length y.old ≡ 4096) }
-    ensures { OneTurn p.index (playing_turn (course_of p) s.now) out.old place result out.new }
+    requires { Going (Sitting.Playing p.old) out.old place × (length x.old ≡ 4096) × (length y.old ≡ 4096) }
+    ensures { OneTurn p.old.index (playing_turn (course_of p.old) s.now) (Sitting.Playing p.old) out.old place result (Sitting.Playing p.new) out.new }
 {
     if s.len() == 0 {
         return None;
@@ -197,7 +194,7 @@ fn playing_turn(
 // After the end.
 fn closing_turn(index: u64, s: &[u8], out: &mut [u8], place: usize) -> Option<Turned>
     requires { place + turn_room ≤ length out.old }
-    ensures { OneTurn index (closing_turn index s.now) out.old place result out.new }
+    ensures { OneEnd index (closing_turn index s.now) out.old place result out.new }
 {
     let len = s.len();
     if len == 0 {
@@ -209,29 +206,29 @@ fn closing_turn(index: u64, s: &[u8], out: &mut [u8], place: usize) -> Option<Tu
 // In a number that is too long.
 fn stuck_turn(part: Part, s: &[u8], out: &mut [u8], place: usize) -> Option<Turned>
     requires { place + turn_room ≤ length out.old }
-    ensures { OneTurn (index_in part) (stuck_turn (being_read part) s.now) out.old place result out.new }
+    ensures { OneEnd (index_in part) (stuck_turn (being_read part) s.now) out.old place result out.new }
 {
     let len = s.len();
     if len == 0 {
         return None;
     }
     match number::read(s, 0) {
-        Err(Fault::CutShort) => Some(go(Sitting::Stuck(part), len, place)),
+        Err(Fault::CutShort) => Some(go(Some(Ended::Stuck(part)), len, place)),
         Err(Fault::BadNumber) => Some(fail(part, 13, len, out, place)),
         Ok(_) => Some(fail(part, 13, len, out, place)),
     }
 }
 
 // Before the item.
-fn open_turn(s: &[u8], out: &mut [u8], place: usize) -> Option<Turned>
+fn open_turn(t: &mut Sitting, s: &[u8], out: &mut [u8], place: usize) -> Option<Turned>
     requires { place + turn_room ≤ length out.old }
-    ensures { OneTurn 0 (item_turn s.now (accepted_item s.now 0)) out.old place result out.new }
+    ensures { OneTurn 0 (item_turn s.now (accepted_item s.now 0)) t.old out.old place result t.new out.new }
 {
     match item_reader::read_accepted(s, 0) {
         Ok((item, taken)) => {
             let transport = record::transport(item);
             let player = item_player::player_of(item);
-            Some(start_turn(player, transport, taken, out, place))
+            Some(start_turn(t, player, transport, taken, out, place))
         }
         Err(refusal) => fault_turn(Part::Item, s, refusal.number(), out, place),
     }
@@ -240,22 +237,34 @@ fn open_turn(s: &[u8], out: &mut [u8], place: usize) -> Option<Turned>
 // One turn, where the bytes at hand decide one: with none, more of them are wanted, and nothing has changed.
 #[tactic(auto, unfolding(sittings::specs::Windows::turn))]
 fn turn(
-    t: Sitting,
+    t: &mut Sitting,
     s: &[u8],
     x: &mut [f32],
     y: &mut [f32],
     out: &mut [u8],
     place: usize,
 ) -> Option<Turned>
-    requires { Going t out.old place × (length x.old ≡ 4096) × (length y.old ≡ 4096) }
-    ensures { OneTurn (index_of t) (windows.turn (stage_of t) s.now) out.old place result out.new }
+    requires { Going t.old out.old place × (length x.old ≡ 4096) × (length y.old ≡ 4096) }
+    ensures { OneTurn (index_of t.old) (windows.turn (stage_of t.old) s.now) t.old out.old place result t.new out.new }
 {
     match t {
-        Sitting::Opening => open_turn(s, out, place),
+        Sitting::Opening => open_turn(t, s, out, place),
         Sitting::Playing(p) => playing_turn(p, s, x, y, out, place),
-        Sitting::Closing(index) => closing_turn(index, s, out, place),
-        Sitting::Stuck(part) => stuck_turn(part, s, out, place),
-        Sitting::NoMore => Some(go(Sitting::NoMore, s.len(), place)),
+        Sitting::Closing(index) => closing_turn(*index, s, out, place),
+        Sitting::Stuck(part) => stuck_turn(*part, s, out, place),
+        Sitting::NoMore => Some(go(None, s.len(), place)),
+    }
+}
+
+// Puts the sitting into the stage that a turn ends in.
+fn settle(t: &mut Sitting, ended: Option<Ended>)
+    ensures { t.new ≡ settled ended t.old }
+{
+    match ended {
+        Some(Ended::Closing(index)) => *t = Sitting::Closing(index),
+        Some(Ended::Stuck(part)) => *t = Sitting::Stuck(part),
+        Some(Ended::NoMore) => *t = Sitting::NoMore,
+        None => {}
     }
 }
 
@@ -276,12 +285,12 @@ pub fn take_turns(t: Sitting, s: &[u8], x: &mut [f32], y: &mut [f32], out: &mut 
                 full: true,
             };
         }
-        let Some(r) = turn(sitting, &s[at..], x, y, out, place) else {
+        let Some(r) = turn(&mut sitting, &s[at..], x, y, out, place) else {
             break;
         };
+        settle(&mut sitting, r.ended);
         at += r.taken;
         place = r.place;
-        sitting = r.sitting;
     }
     Step {
         sitting,

@@ -5,5 +5,5 @@ use Rattle.run_calls.proofs.one_call.Goals as goal
 pub returns-in-Err : goal.returns-in-Err
 returns-in-Err g c =
     let m = g.C.Calls in
-    let (ill, same) = c.in-Err.ensures in
-    call_malformed m.calling m.state_of m.Valid c.args.run.now c.args.from.player ill (rw same at c.malformed.ensures)
+    let (ill, same, stays) = c.in-Err.ensures in
+    call_malformed m.calling m.state_of m.Valid c.args.run.now c.args.from.now.player ill (rw same at c.malformed.ensures)

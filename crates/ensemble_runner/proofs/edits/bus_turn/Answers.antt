@@ -8,4 +8,4 @@ use Rattle.ensemble_runner.proofs.edits.bus_turn.Goals as goal
 
 pub returns : goal.returns
 unfolding bus_call after numbers
-returns c = change_answered c.args.run.now c.set_bus-changed.ensures refl (rw (← c.in_ok-bus.ensures, ← c.in_ok-value.ensures)) c.say_change.ensures
+returns c = change_answered c.args.run.now c.set_bus-changed.ensures refl (rw (← c.in_ok-bus.ensures, ← c.in_ok-value.ensures)) c.say_change.ensures.changed c.say_change.ensures.says

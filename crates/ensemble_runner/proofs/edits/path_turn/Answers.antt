@@ -8,4 +8,4 @@ use Rattle.ensemble_runner.proofs.edits.path_turn.Goals as goal
 
 pub returns : goal.returns
 unfolding path_call after numbers
-returns c = change_answered c.args.run.now c.set_path-changed.ensures refl (rw (← c.in_ok-codes.ensures)) c.say_change.ensures
+returns c = change_answered c.args.run.now c.set_path-changed.ensures refl (rw (← c.in_ok-codes.ensures)) c.say_change.ensures.changed c.say_change.ensures.says

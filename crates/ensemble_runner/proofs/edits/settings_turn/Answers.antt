@@ -8,4 +8,4 @@ use Rattle.ensemble_runner.proofs.edits.settings_turn.Goals as goal
 
 pub returns : goal.returns
 unfolding settings_call after numbers
-returns c = change_answered c.args.run.now c.set_settings-changed.ensures refl (rw (← c.in_ok-codes.ensures, ← c.in_ok-shared.ensures)) c.say_change.ensures
+returns c = change_answered c.args.run.now c.set_settings-changed.ensures refl (rw (← c.in_ok-codes.ensures, ← c.in_ok-shared.ensures)) c.say_change.ensures.changed c.say_change.ensures.says

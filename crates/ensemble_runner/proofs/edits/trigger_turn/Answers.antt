@@ -8,4 +8,4 @@ use Rattle.ensemble_runner.proofs.edits.trigger_turn.Goals as goal
 
 pub returns : goal.returns
 unfolding trigger_call after numbers
-returns c = change_answered c.args.run.now c.trigger-changed.ensures refl (rw (← c.in_ok-voice.ensures, ← c.in_ok-frame.ensures)) c.say_change.ensures
+returns c = change_answered c.args.run.now c.trigger-changed.ensures refl (rw (← c.in_ok-voice.ensures, ← c.in_ok-frame.ensures)) c.say_change.ensures.changed c.say_change.ensures.says

@@ -14,5 +14,5 @@ use Rattle.ensemble_runner.proofs.values.phase_turn.Goals as goal
 pub returns : goal.returns
 unfolding phase_call after numbers
 returns c =
-    answered ensembles state_of Valid c.args.run.now c.args.from.player _ {a = Calls.phase c.in_ok-voice.voice c.in_ok-codes.codes}
+    answered ensembles state_of Valid c.args.run.now c.args.from.now.player (record { at = c.in_ok-codes.at; player = c.args.from.now.player }) {a = Calls.phase c.in_ok-voice.voice c.in_ok-codes.codes}
     (rw (← c.in_ok-voice.ensures, ← c.in_ok-codes.ensures)) (ap answer_numbers (sym c.phase-phase.ensures)) (phase_stays _ _ _) c.requires c.say_value.ensures

@@ -3,4 +3,4 @@ use Rattle.replies.proofs.Laws.{listed_none}
 use Rattle.run_calls.proofs.writing.say_number.Goals as goal
 
 pub returns : goal.returns
-returns g c = rw listed_none at c.say.ensures
+returns c = rw listed_none at c.say.ensures

@@ -6,8 +6,8 @@ use Rattle.run_calls.proofs.writing.say_value.Goals as goal
 
 pub returns-in-Ok : goal.returns-in-Ok
 unfolding listed answer_numbers
-returns-in-Ok g c = rw c.in-Ok.is (rw append-nil at c.say.ensures)
+returns-in-Ok c = rw c.in-Ok.is (rw append-nil at c.say.ensures)
 
 pub returns-in-Err : goal.returns-in-Err
 unfolding answer_numbers
-returns-in-Err g c = rw (c.in-Err.is, ← c.number.ensures) c.say_number.ensures
+returns-in-Err c = rw (c.in-Err.is, ← c.number.ensures) c.say_number.ensures

@@ -8,4 +8,4 @@ use Rattle.runner.proofs.edits.bus_turn.Goals as goal
 
 pub returns : goal.returns
 unfolding bus_call after call_numbers
-returns c = edit_answered c.args.run.now c.set_bus-changed.ensures refl (rw (← c.in_ok-bus.ensures, ← c.in_ok-value.ensures)) c.say_change.ensures
+returns c = edit_answered c.args.run.now c.set_bus-changed.ensures refl (rw (← c.in_ok-bus.ensures, ← c.in_ok-value.ensures)) c.say_change.ensures.changed c.say_change.ensures.says

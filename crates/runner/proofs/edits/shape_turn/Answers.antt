@@ -8,4 +8,4 @@ use Rattle.runner.proofs.edits.shape_turn.Goals as goal
 
 pub returns : goal.returns
 unfolding shape_call after call_numbers
-returns c = edit_answered c.args.run.now c.set_shape-changed.ensures refl (rw (← c.in_ok-codes.ensures)) c.say_change.ensures
+returns c = edit_answered c.args.run.now c.set_shape-changed.ensures refl (rw (← c.in_ok-codes.ensures)) c.say_change.ensures.changed c.say_change.ensures.says

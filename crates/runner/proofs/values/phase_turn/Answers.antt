@@ -14,5 +14,6 @@ use Rattle.runner.proofs.values.phase_turn.Goals as goal
 pub returns : goal.returns
 unfolding phase_call after numbers call_numbers state_after
 returns c =
-    answered players state_of Valid c.args.run.now c.args.from.player _ {a = call (Calls.phase c.in_ok-codes.codes)} (rw (← c.in_ok-codes.ensures)) (ap answer_numbers (sym c.phase-phase.ensures)) (phase_stays _ _) c.requires
+    answered players state_of Valid c.args.run.now c.args.from.now.player (record { at = c.in_ok-codes.at; player = c.args.from.now.player }) {a = call (Calls.phase c.in_ok-codes.codes)}
+    (rw (← c.in_ok-codes.ensures)) (ap answer_numbers (sym c.phase-phase.ensures)) (phase_stays _ _) c.requires
     c.say_value.ensures

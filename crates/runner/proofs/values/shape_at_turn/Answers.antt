@@ -12,5 +12,6 @@ use Rattle.runner.proofs.values.shape_at_turn.Goals as goal
 pub returns : goal.returns
 unfolding shape_at_call after numbers state_after
 returns c =
-    answered players state_of Valid c.args.run.now c.args.from.player _ {a = shape_at c.in_ok-codes.codes c.in_ok-x.x} (rw (← c.in_ok-codes.ensures, ← c.in_ok-x.ensures)) (ap answer_numbers (sym c.evaluate_shape-value.ensures)) refl c.requires
+    answered players state_of Valid c.args.run.now c.args.from.now.player (record { at = c.in_ok-x.at; player = c.args.from.now.player }) {a = shape_at c.in_ok-codes.codes c.in_ok-x.x}
+    (rw (← c.in_ok-codes.ensures, ← c.in_ok-x.ensures)) (ap answer_numbers (sym c.evaluate_shape-value.ensures)) refl c.requires
     c.say_value.ensures

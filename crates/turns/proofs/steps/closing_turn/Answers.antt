@@ -5,8 +5,8 @@ use Rattle.turns.proofs.steps.closing_turn.Goals as goal
 
 pub returns-then-len-eq0 : goal.returns-then-len-eq0
 returns-then-len-eq0 c =
-    rw (closing_none c.args.index c.args.s.now c.if-len-eq0.true) (refl, refl)
+    λ t. rw (closing_none c.args.index c.args.s.now c.if-len-eq0.true) (refl, refl, refl)
 
 pub returns : goal.returns
 returns c =
-    rw (closing_some c.args.index c.args.s.now c.if-len-eq0.false) c.fail.ensures
+    λ t. rw (closing_some c.args.index c.args.s.now c.if-len-eq0.false) (c.fail.ensures t)

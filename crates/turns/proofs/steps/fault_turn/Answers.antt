@@ -3,7 +3,8 @@ use mathlib.Core.Path.{refl}
 use native.Mathlib.Omega.{arith}
 use borrow.Author.Tests.{eq-eqb, ne_eqb, lt-ltb, le-ltb}
 use Rattle.sittings.specs.Windows.{fault_turn}
-use Rattle.turns.specs.declared.Sitting.TheVariants as Sitting
+use Rattle.std.specs.Prelude.{Some}
+use Rattle.turns.specs.declared.Ended.TheVariants as Ended
 use Rattle.turns.proofs.One.{turn_goes}
 use Rattle.turns.proofs.steps.fault_turn.Goals as goal
 
@@ -13,17 +14,17 @@ returns-then-most-len c =
     let a = c.args in
     let most = c.most.ensures in
     let more = lt-ltb _ _ c.if-most-len.true in
-    rw (eq-eqb _ _ c.if-n-eq12.true, ← most, more)
-    (turn_goes c.requires (Sitting.Stuck a.part) (omega arith) tt _ c.go.ensures)
+    λ t. rw (eq-eqb _ _ c.if-n-eq12.true, ← most, more)
+    (turn_goes c.requires t (Some (Ended.Stuck a.part)) (omega arith) tt _ c.go.ensures)
 
 pub returns-then-n-eq12 : goal.returns-then-n-eq12
 unfolding fault_turn
 returns-then-n-eq12 c =
     let most = c.most.ensures in
     let few = le-ltb _ _ c.if-most-len.false in
-    rw (eq-eqb _ _ c.if-n-eq12.true, ← most, few) (refl, refl)
+    λ t. rw (eq-eqb _ _ c.if-n-eq12.true, ← most, few) (refl, refl, refl)
 
 pub returns : goal.returns
 unfolding fault_turn
 returns c =
-    rw (ne_eqb _ _ c.if-n-eq12.false) c.fail.ensures
+    λ t. rw (ne_eqb _ _ c.if-n-eq12.false) (c.fail.ensures t)

@@ -9,4 +9,4 @@ returns-in-Ok c =
 
 pub returns-in-Err : goal.returns-in-Err
 returns-in-Err c =
-    rw (item_fault c.args.s.now _ c.in-Err.ensures, ← c.number.ensures) c.fault_turn.ensures
+    rw (item_fault c.args.s.now _ c.in-Err.ensures, ← c.number.ensures) (c.fault_turn.ensures c.args.t.now)

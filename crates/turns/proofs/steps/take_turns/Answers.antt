@@ -27,7 +27,7 @@ pub loop-at-preserved : goal.loop-at-preserved
 loop-at-preserved c =
     let i = c.loop-at.invariant in
     let w = rw (part c.args.s.now c.loop-at.at) at c.in-Some.ensures in
-    (omega arith, omega arith, i.2, ran_on i.2 i.3 w c.loop-at-test.true)
+    (omega arith, omega arith, i.2, rw c.settle.ensures (ran_on i.2 i.3 w c.loop-at-test.true))
 
 pub returns-after-loop-at : goal.returns-after-loop-at
 returns-after-loop-at c = let i = c.loop-at.invariant in ran_end i.2 i.3 c.loop-at-test.false

@@ -11,13 +11,15 @@ pub returns-in-Ok : goal.returns-in-Ok
 unfolding make after
 returns-in-Ok c =
     let w = rw c.in-Ok.is at c.make.ensures in
-    begins_made players state_of Valid c.args.run.now {m = (c.in_ok-codes.codes, c.in_ok-seed.seed)}
-    (rw (← c.in_ok-codes.ensures, ← c.in_ok-seed.ensures)) (sym w.answer_is) (sym w.state_is) w.valid c.say_number.ensures
+    rw c.turn.ensures
+    (begins_made players state_of Valid c.args.run.now {m = (c.in_ok-codes.codes, c.in_ok-seed.seed)} (record { at = c.in_ok-seed.at; player = c.in-Ok.player })
+    (rw (← c.in_ok-codes.ensures, ← c.in_ok-seed.ensures)) (sym w.answer_is) (sym w.state_is) w.valid c.say_number.ensures)
 
 pub returns-in-Err : goal.returns-in-Err
 unfolding make after
 returns-in-Err c =
     let w = rw c.in-Err.is at c.make.ensures in
-    begins_refused players state_of Valid c.args.run.now {m = (c.in_ok-codes.codes, c.in_ok-seed.seed)}
+    rw c.turn-in-Err.ensures
+    (begins_refused players state_of Valid c.args.run.now {m = (c.in_ok-codes.codes, c.in_ok-seed.seed)}
     {at = c.in_ok-seed.at} (rw (← c.in_ok-codes.ensures, ← c.in_ok-seed.ensures)) w.answer_is (number_not_zero c.in-Err.q)
-    (rw c.number.ensures at c.say_number-in-Err.ensures)
+    (rw c.number.ensures at c.say_number-in-Err.ensures))
