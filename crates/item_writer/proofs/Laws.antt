@@ -1,6 +1,6 @@
 -- Numbers put one behind the other. Assumes nothing.
 --     one, none                       a number, or none
---     _then_                          and then more
+--     ◌then◌                          and then more
 --     row_none, row_more     a row, by the turns of a loop
 --     at_most                         a row that is not longer
 use Prim.Native.Nat.{ℕ, ◌+◌, ◌<◌, ◌≤◌}

@@ -37,7 +37,7 @@ pub fn say_number(out: &mut [u8], place: usize, n: u64) -> Went
 // "Where the bytes of a call are malformed, the output ends with the number 255".
 const MALFORMED: u64 = 255;
 
-// Answers where it ends.
+// Answers where the output ends.
 pub fn malformed(out: &mut [u8], place: usize) -> usize
     ensures { Ends out.old place (255 ∷ []) result out.new }
 {

@@ -1,7 +1,7 @@
 -- A turn of the code, from the equations of what it calls. Assumes nothing.
 --     turn_goes, turn_writes     nothing is printed, or a text
---     fault_short                            the line of a fault has room
---     block_facts, block_lines_lem, block_turned, bus-turned, event-fails     the events
+--     item_short, event_short     the line of a fault has room
+--     block_fails, block_facts, block_lines_lem, block_turned, bus_fails, bus_goes, restart_goes, end_goes     the events
 use Prim.Native.Nat.{ℕ, suc, ◌+◌, ◌≤◌, ◌<◌, ◌^◌}
 use mathlib.Core.Path.{◌≡◌, refl, sym, ap, ◌∙◌}
 use mathlib.Core.Bool.{true, cond}

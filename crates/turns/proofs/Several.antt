@@ -1,6 +1,6 @@
 -- OneTurn one after the other, by the bytes at hand. Assumes nothing.
 --     Ran        what was printed and what is left, after some turns
---     ran_first, ran_going, ran_on, ran_full, ran_waits, ran_end     its steps, and its ends
+--     ran_first, ran_on, ran_waits, ran_end     its steps, and its ends
 use Prim.Native.Nat.{ℕ, suc, ◌+◌, ◌-◌, ◌≤◌, ◌<◌}
 use mathlib.Core.Path.{◌≡◌, refl, sym, ap, ◌∙◌, subst}
 use mathlib.Core.Logic.{◌⊎◌, inl, inr}

@@ -1,10 +1,10 @@
 -- What the proof of `small_floor` cites, of an x of less than 2 ^ 51 in size. Its sum with 3 * 2 ^ 51 lies from 2 ^ 52 to 2 ^ 53, where an `f64` has the whole numbers alone:
--- so the sum is a whole number next to the exact one, and the difference from it is exact. Assumes nothing.
+-- so the sum is a whole number next to the exact one, and the difference from it is exact. `rounded_at`, `next` and `over` are of any format: proofs/Half.antt cites them too. Assumes nothing.
 use Rattle.std.proofs.Common.{◌≡◌, ℕ, zero, suc, ◌+◌, ◌-◌, ◌*◌, ◌/◌, ◌%◌, ◌^◌, ◌<◌, ◌≤◌, Bool, true, false, cond, not, T, ltb, ◌⊎◌, ℤ, pos, negsuc, sym, refl, ap, ◌∙◌, subst, inl, inr, le_trans, le_of_eq, le_refl, lt_of_lt_of_le, lt_of_le_of_lt, mul-le-mul_right, mod-lt, zero-lt-suc, mul_assoc, suc-mul, mul_comm, div-lt_iff_lt-mul, add-mul, le_antisymm, lt_of_mul-lt-mul_right, eq-or-lt_of_le, div-add-mod', mul-one, mul_right_comm, le_of_mul-le-mul_right, arith, lit<, lit≤, ltb→lt, lt→ltb, nltb→le, T_not, pow_pos}
 use Prim.Native.Nat.{compare}
 use native.Mathlib.Nat.{add-mul-div_right, eq_of_mul-eq-mul_right}
 use lib.Arith.{le→nltb}
-use lib.Ieee.{Float, nan, inf, fin, binary64, up, down, below, units, round, neg, add, sub, lt, fits}
+use lib.Ieee.{Float, nan, inf, fin, Format, binary32, binary64, prec, low, emax, hid, up, down, below, units, round, neg, add, sub, lt, fits}
 use lib.Ieee.Fits.{down_pos, nearest-le}
 use lib.Ieee.Exact.{HasValue, units_val}
 use lib.Ieee.Back.{round_whole, whole_unique}
@@ -37,7 +37,7 @@ bottom = fin true 1 (pos 51)
 abbrev pub nearby : Float → Float
 nearby x = sub binary64 (add binary64 x big) big
 
--- ---- v / d, from 2 ^ 52 up to 2 ^ 53, is rounded to a whole number
+-- ---- v / d, from 2 ^ (prec - 1) up to 2 ^ prec, is rounded to a whole number
 
 whole_of_lem : (x : Float) (s : Bool) (q l : ℕ) → 0 < l → HasValue x s (q * l) l → HasValue x s q 1
 whole_of_lem nan s q l L v = v
@@ -45,26 +45,31 @@ whole_of_lem (inf t) s q l L v = v
 whole_of_lem (fin t m e) s q l L v =
     (v.0, eq_of_mul-eq-mul_right l L (m * up e * 1) (q * down e) (ap (λ (z : ℕ). z * l) (mul-one (m * up e)) ∙ v.1 ∙ mul_right_comm q l (down e)))
 
-rounded : (v j : ℕ) → 2 ^ 52 * 2 ^ j ≤ v → v < 2 ^ 53 * 2 ^ j → HasValue (round binary64 false v (2 ^ j)) false (closest v (2 ^ j)) 1
-rounded v j lo hi =
+in_range : (f : Format) → 2 ^ prec f * 2 ^ low f < 2 ^ (low f + suc (emax f))
+in_range binary32 = lit< tt
+in_range binary64 = lit< tt
+
+rounded : (f : Format) (v j : ℕ) → hid f * 2 ^ j ≤ v → v < 2 ^ prec f * 2 ^ j → HasValue (round f false v (2 ^ j)) false (closest v (2 ^ j)) 1
+rounded f v j lo hi =
     let Q = closest v (2 ^ j) in
+    let L = 2 ^ low f in
     subst (λ (y : Float). HasValue y false Q 1)
-    (sym (round_cut binary64 false v (2 ^ j) v j 1074 (pow_pos j) (mul_assoc v (2 ^ 1074) (2 ^ j) ∙ ap (λ (z : ℕ). v * z) (mul_comm (2 ^ 1074) (2 ^ j))) (λ (k : 0 < 1074). lo) hi))
-    (whole_of_lem (units binary64 false Q 1074) false Q (2 ^ 1074) (pow_pos 1074)
-    (units_val binary64 false Q 1074 (lt_of_le_of_lt (mul-le-mul_right (2 ^ 1074) (closest_most v (2 ^ j) (2 ^ 53) (pow_pos j) hi)) (lit< tt))))
+    (sym (round_cut f false v (2 ^ j) v j (low f) (pow_pos j) (mul_assoc v L (2 ^ j) ∙ ap (λ (z : ℕ). v * z) (mul_comm L (2 ^ j))) (λ (k : 0 < low f). lo) hi))
+    (whole_of_lem (units f false Q (low f)) false Q L (pow_pos (low f))
+    (units_val f false Q (low f) (lt_of_le_of_lt (mul-le-mul_right L (closest_most v (2 ^ j) (2 ^ prec f) (pow_pos j) hi)) (in_range f))))
 
 -- a denominator is a power of two
 down_power : (e : ℤ) → (j : ℕ) × (2 ^ j ≡ down e)
 down_power (pos k) = (0, refl)
 down_power (negsuc k) = (suc k, refl)
 
-rounded_at : (v : ℕ) (e : ℤ) → 4503599627370496 * down e ≤ v → v < 9007199254740992 * down e → HasValue (round binary64 false v (down e)) false (closest v (down e)) 1
-rounded_at v e =
+pub rounded_at : (f : Format) (v : ℕ) (e : ℤ) → hid f * down e ≤ v → v < 2 ^ prec f * down e → HasValue (round f false v (down e)) false (closest v (down e)) 1
+rounded_at f v e =
     let p = down_power e in
-    subst (λ (d : ℕ). 4503599627370496 * d ≤ v → v < 9007199254740992 * d → HasValue (round binary64 false v d) false (closest v d) 1) p.1 (rounded v p.0)
+    subst (λ (d : ℕ). hid f * d ≤ v → v < 2 ^ prec f * d → HasValue (round f false v d) false (closest v d) 1) p.1 (rounded f v p.0)
 
 -- it is one of the two next to v / d
-next : (v d : ℕ) → (closest v d ≡ v / d) ⊎ (closest v d ≡ suc (v / d))
+pub next : (v d : ℕ) → (closest v d ≡ v / d) ⊎ (closest v d ≡ suc (v / d))
 next v d = elim (eq-or-lt_of_le (nearest-ge (v / d) (compare (v % d * 2) d))) [
   | inl h ↦ inl (sym h)
   | inr h ↦ inr (le_antisymm (nearest-le (v / d) (compare (v % d * 2) d)) h)
@@ -72,26 +77,26 @@ next v d = elim (eq-or-lt_of_le (nearest-ge (v / d) (compare (v % d * 2) d))) [
 
 -- ---- the difference of two whole numbers
 
-module _ (y b : Float) (Q B : ℕ) (vy : HasValue y false Q 1) (vb : HasValue b false B 1) where
-  apart : sub binary64 y b ≡ cond (ltb Q B) (round binary64 true (B - Q) 1) (round binary64 false (Q - B) 1)
+module _ (f : Format) (y b : Float) (Q B : ℕ) (vy : HasValue y false Q 1) (vb : HasValue b false B 1) where
+  apart : sub f y b ≡ cond (ltb Q B) (round f true (B - Q) 1) (round f false (Q - B) 1)
   unfolding sub
   apart =
-      add_by_value y (neg b) false true Q 1 B 1 (zero-lt-suc 0) (zero-lt-suc 0) binary64 vy (neg_value b false B 1 vb)
-      ∙ sum_unlike binary64 false (Q * 1) (B * 1) (1 * 1)
-      ∙ ap (λ (z : ℕ). cond (ltb z (B * 1)) (round binary64 true (B * 1 - z) 1) (round binary64 false (z - B * 1) 1)) (mul-one Q)
-      ∙ ap (λ (z : ℕ). cond (ltb Q z) (round binary64 true (z - Q) 1) (round binary64 false (Q - z) 1)) (mul-one B)
+      add_by_value y (neg b) false true Q 1 B 1 (zero-lt-suc 0) (zero-lt-suc 0) f vy (neg_value b false B 1 vb)
+      ∙ sum_unlike f false (Q * 1) (B * 1) (1 * 1)
+      ∙ ap (λ (z : ℕ). cond (ltb z (B * 1)) (round f true (B * 1 - z) 1) (round f false (z - B * 1) 1)) (mul-one Q)
+      ∙ ap (λ (z : ℕ). cond (ltb Q z) (round f true (z - Q) 1) (round f false (Q - z) 1)) (mul-one B)
 
-  over : (c : ℕ) → Q ≡ B + c → sub binary64 y b ≡ round binary64 false c 1
+  pub over : (c : ℕ) → Q ≡ B + c → sub f y b ≡ round f false c 1
   over c h =
       apart
-      ∙ ap (λ (z : Bool). cond z (round binary64 true (B - Q) 1) (round binary64 false (Q - B) 1)) (is_false (ltb Q B) (le→nltb Q B (omega arith)))
-      ∙ ap (λ (z : ℕ). round binary64 false z 1) (omega arith)
+      ∙ ap (λ (z : Bool). cond z (round f true (B - Q) 1) (round f false (Q - B) 1)) (is_false (ltb Q B) (le→nltb Q B (omega arith)))
+      ∙ ap (λ (z : ℕ). round f false z 1) (omega arith)
 
-  under : (c : ℕ) → Q + suc c ≡ B → sub binary64 y b ≡ round binary64 true (suc c) 1
+  under : (c : ℕ) → Q + suc c ≡ B → sub f y b ≡ round f true (suc c) 1
   under c h =
       apart
-      ∙ ap (λ (z : Bool). cond z (round binary64 true (B - Q) 1) (round binary64 false (Q - B) 1)) (is_true (ltb Q B) (lt→ltb Q B (omega arith)))
-      ∙ ap (λ (z : ℕ). round binary64 true z 1) (omega arith)
+      ∙ ap (λ (z : Bool). cond z (round f true (B - Q) 1) (round f false (Q - B) 1)) (is_true (ltb Q B) (lt→ltb Q B (omega arith)))
+      ∙ ap (λ (z : ℕ). round f true z 1) (omega arith)
 
 -- one less than a negative one
 lower : (t : Float) (c : ℕ) → HasValue t true c 1 → sub binary64 t one ≡ round binary64 true (suc c) 1
@@ -176,7 +181,7 @@ module _ (m : ℕ) (e : ℤ) (t : T (fits binary64 (fin false m e))) (small : m 
 
   past_q : Steps x (round binary64 false (suc q) 1) w
   past_q = record {
-    less = λ (h : lt x (round binary64 false (suc q) 1) ≡ true). over (round binary64 false (suc q) 1) one (suc q) 1 (value (suc q) (le_refl (suc q))) (refl, refl) q (one_more q) ∙ sym w_is;
+    less = λ (h : lt x (round binary64 false (suc q) 1) ≡ true). over binary64 (round binary64 false (suc q) 1) one (suc q) 1 (value (suc q) (le_refl (suc q))) (refl, refl) q (one_more q) ∙ sym w_is;
     same = λ (h : lt (round binary64 false (suc q) 1) x ≡ true). absurd (clash (suc q * d) n q_hi (ltb→lt (suc q * d) (n * 1) (yes_so (sym (under_x (suc q) (le_refl (suc q))) ∙ h))));
     itself = λ (h : lt x (round binary64 false (suc q) 1) ≡ false) (k : lt (round binary64 false (suc q) 1) x ≡ false). absurd (miss (suc q * d) n q_hi (nltb→le (n * 1) (suc q * d) (not_so (sym (over_x (suc q) (le_refl (suc q))) ∙ h))));
   }
@@ -201,7 +206,7 @@ module _ (m : ℕ) (e : ℤ) (t : T (fits binary64 (fin false m e))) (small : m 
   k = closest (n + shift * d) d
 
   total_value : HasValue (add binary64 x big) false k 1
-  total_value = subst (λ (y : Float). HasValue y false k 1) (sym total) (rounded_at (n + shift * d) e (lo n d) (hi n d small))
+  total_value = subst (λ (y : Float). HasValue y false k 1) (sym total) (rounded_at binary64 (n + shift * d) e (lo n d) (hi n d small))
     where
       lo : (n d : ℕ) → 4503599627370496 * d ≤ n + shift * d
       lo n d = omega arith
@@ -210,7 +215,7 @@ module _ (m : ℕ) (e : ℤ) (t : T (fits binary64 (fin false m e))) (small : m 
       hi n d h = omega arith
 
   near_is : (c : ℕ) → k ≡ shift + c → nearby x ≡ round binary64 false c 1
-  near_is c h = over (add binary64 x big) big k shift total_value (refl, refl) c h
+  near_is c h = over binary64 (add binary64 x big) big k shift total_value (refl, refl) c h
 
   pub plus_steps : Steps x (nearby x) w
   plus_steps =
@@ -242,15 +247,15 @@ minus_value (suc c) h = round_whole binary64 true (suc c) h
 
 -- one less
 minus_one_more : (c : ℕ) → c ≤ 9007199254740992 → sub binary64 (minus c) one ≡ round binary64 true (suc c) 1
-minus_one_more zero h = under (minus 0) one 0 1 (minus_value 0 h) (refl, refl) 0 refl
+minus_one_more zero h = under binary64 (minus 0) one 0 1 (minus_value 0 h) (refl, refl) 0 refl
 minus_one_more (suc c) h = lower (minus (suc c)) (suc c) (minus_value (suc c) h)
 
 minus_is : (y : Float) (k c : ℕ) → HasValue y false k 1 → k + c ≡ shift → sub binary64 y big ≡ minus c
-minus_is y k zero v h = over y big k shift v (refl, refl) 0 (go k h)
+minus_is y k zero v h = over binary64 y big k shift v (refl, refl) 0 (go k h)
   where
     go : (k : ℕ) → k + 0 ≡ shift → k ≡ shift + 0
     go k h = omega arith
-minus_is y k (suc c) v h = under y big k shift v (refl, refl) c h
+minus_is y k (suc c) v h = under binary64 y big k shift v (refl, refl) c h
 
 -- -a below -c, and the other way round
 below_minus : (a c d : ℕ) → T (below true (a * 1) (has_sign c) (c * d)) → c * d < a
@@ -409,7 +414,7 @@ module _ (m : ℕ) (e : ℤ) (t : T (fits binary64 (fin true m e))) (small : m *
   j = closest (shift * down e - m * up e) (down e)
 
   difference_value : HasValue (add binary64 y big) false j 1
-  difference_value = subst (λ (z : Float). HasValue z false j 1) (sym difference) (rounded_at v e (lo a b small) (hi a b (down_pos e)))
+  difference_value = subst (λ (z : Float). HasValue z false j 1) (sym difference) (rounded_at binary64 v e (lo a b small) (hi a b (down_pos e)))
     where
       lo : (a b : ℕ) → a < range * b → 4503599627370496 * b ≤ shift * b - a
       lo a b h = omega arith
