@@ -12,7 +12,7 @@ use Rattle.ensemble_runner.specs.Output.{ensembles}
 
 -- A turn of a call that is read from the place n.at on, and leaves n as n'. Where there is a fault in its bytes nothing is written, and what is played stays.
 abbrev pub TurnsOn : Parser Call → List ℕ → Next Ensemble → List ℕ → ℕ → Result Went Fault → Next Ensemble → List ℕ → Type 0
-TurnsOn = run_calls.TurnsOn ensembles state_of Valid
+TurnsOn = run_calls.TurnsInPlace ensembles state_of Valid
 
 -- a turn of the call a, behind which the run goes on at n.at; it leaves n as n'
 abbrev pub TurnsBy : Call → Next Ensemble → List ℕ → ℕ → Went → Next Ensemble → List ℕ → Type 0

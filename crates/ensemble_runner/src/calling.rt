@@ -15,12 +15,13 @@ use super::edits::{bus_turn, path_turn, settings_turn, shape_turn, trigger_turn}
 use super::values::phase_turn;
 use ensemble_player::Ensemble;
 use fields::Fault;
-use run_calls::{Calls, Next, Turn, Went, say_number};
+use run_calls::in_place::CallsInPlace;
+use run_calls::{Next, Turn, Went, say_number};
 
 // Runs on an ensemble. The clauses of `make` and `call` stand here too: the check gives a method none of its trait's.
 pub struct Ensembles;
 
-impl Calls for Ensembles {
+impl CallsInPlace for Ensembles {
     type Player = Ensemble;
 
     ghost Making = { SettingsCodes × ℕ × ℕ × ℕ };

@@ -20,7 +20,7 @@ use Rattle.outputs.proofs.Given.{call_ill, make_ill, make_taken, make_refused}
 use Rattle.run_calls.specs.declared.Next.{Next}
 use Rattle.run_calls.specs.declared.Turn.{Turn}
 use Rattle.run_calls.specs.declared.Went.{Went}
-use Rattle.run_calls.specs.Turns.{went_of, end_of, turn_of, Says, Ends, behind, given_of, Turns, TurnsOn, Begins, Finishes}
+use Rattle.run_calls.specs.Turns.{went_of, end_of, turn_of, Says, Ends, behind, given_of, Turns, TurnsInPlace, Begins, Finishes}
 
 pub one_less : (n turn : ℕ) → turn < n → n - turn ≡ suc (n - (turn + 1))
 one_less n turn h = omega arith
@@ -86,8 +86,8 @@ module _ {P M S A : Type 0} (C : Calling M S A) (state_of : P → S) (Valid : P 
   -- a call behind its tag
   pub behind_tag : (by_tag : List (Parser A)) → C.asked ≡ tagged by_tag → (run : List ℕ) (n : Next P) {tag at : ℕ} → read tag at ≡ number run n.at
       → (x : List ℕ) (place : ℕ) (r : Result Went Fault) (n' : Next P) (y : List ℕ)
-      → TurnsOn C state_of Valid (get_or by_tag tag none) run (record { at = at; player = n.player }) x place r n' y
-      → TurnsOn C state_of Valid C.asked run n x place r n' y
+      → TurnsInPlace C state_of Valid (get_or by_tag tag none) run (record { at = at; player = n.player }) x place r n' y
+      → TurnsInPlace C state_of Valid C.asked run n x place r n' y
   behind_tag by_tag e run n is x place r n' y w =
       subst
       (λ v. MatchResult r (λ t. Turns C state_of Valid run (given_of C state_of n.player run v) x place (turn_of t (Some n')) y) (λ f. (fault (fault_number f) ≡ v) × (y ≡ x) × (n'.player ≡ n.player)))

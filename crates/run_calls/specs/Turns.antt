@@ -58,9 +58,16 @@ module _ {P M S A : Type 0} (C : Calling M S A) (state_of : P → S) (Valid : P 
     pub rest : (most : ℕ) → fitting (length x) place (all most) ≡ written ++ fitting (length x) t.place (behind C state_of run t.next most)
     pub valid : IfSome t.next (λ n. Valid n.player)
 
-  -- A turn of a call that is read from the place n.at on, and leaves n as n'. Where there is a fault in its bytes nothing is written, and what is played stays.
-  abbrev pub TurnsOn : Parser A → List ℕ → Next P → List ℕ → ℕ → Result Went Fault → Next P → List ℕ → Type 0
-  TurnsOn q run n x place r n' y =
+  -- a turn of a call that is read from the place n.at on; where there is a fault in its bytes nothing is written
+  abbrev pub TurnsOn : Parser A → List ℕ → Next P → List ℕ → ℕ → Result (Turn P) Fault → List ℕ → Type 0
+  TurnsOn q run n x place r y =
+      MatchResult r
+      (λ t. Turns run (given_of C state_of n.player run (q run n.at)) x place t y)
+      (λ f. (fault (fault_number f) ≡ q run n.at) × (y ≡ x))
+
+  -- The same of a call that changes n in its place, and leaves it as n'. Where there is a fault in its bytes what is played stays.
+  abbrev pub TurnsInPlace : Parser A → List ℕ → Next P → List ℕ → ℕ → Result Went Fault → Next P → List ℕ → Type 0
+  TurnsInPlace q run n x place r n' y =
       MatchResult r
       (λ w. Turns run (given_of C state_of n.player run (q run n.at)) x place (turn_of w (Some n')) y)
       (λ f. (fault (fault_number f) ≡ q run n.at) × (y ≡ x) × (n'.player ≡ n.player))

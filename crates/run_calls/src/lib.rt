@@ -1,14 +1,17 @@
 // A run of calls: its bytes are read, its calls are made one by one, and what they give is written (docs/RUN.md). It knows neither what is played nor its calls.
 #![tactic(auto)]
 
+mod by_value;
+pub mod in_place;
 mod writing;
 
 ghost use Rattle.std.specs.Prelude.{◌≡◌, ◌≤◌, List, length, get_or, Some, IfSome};
 ghost use Rattle.fields.specs.Parser.{Parser};
 ghost use Rattle.outputs.specs.Output.{Calling, Runs, none, tagged};
-ghost use Rattle.run_calls.specs.Turns.{turn_of, behind, given_of, Turns, TurnsOn, Begins, Makes, Finishes};
+ghost use Rattle.run_calls.specs.Turns.{turn_of, behind, given_of, Turns, TurnsOn, TurnsInPlace, Begins, Makes, Finishes};
 
 use fields::Fault;
+use in_place::CallsInPlace;
 pub use writing::{flag, malformed, say, say_change, say_number, say_value};
 
 // Where a run goes on: from where in its bytes, and with what is played.
@@ -25,7 +28,7 @@ pub enum Went {
     Ended(usize),
 }
 
-// How it goes on after the first numbers were written: from where in the output, and where the run goes on, unless the output ends there.
+// How it goes on after numbers were written, of making or of a call: from where in the output, and where the run goes on, unless the output ends there.
 #[derive(Clone, Copy)]
 pub struct Turn<P> {
     pub place: usize,
@@ -44,7 +47,8 @@ impl Went {
     }
 }
 
-// The calls of one kind of run: how what is played is made, and how a call is read and made. `calling` says what they give.
+// The calls of one kind of run: how what is played is made, and how a call is read and made. `calling` says what they give. A call takes what is played by value, and hands on
+// what is played behind it. What has these calls has those of `in_place::CallsInPlace` too (src/by_value.rt), and runs by them.
 pub trait Calls {
     // What is played.
     type Player: Copy;
@@ -68,22 +72,22 @@ pub trait Calls {
     fn make(run: &[u8], out: &mut [u8]) -> Result<Turn<Self::Player>, Fault>
         ensures { Makes calling state_of Valid run.now out.old result out.new };
 
-    // One call, whose tag was read. It changes what is played in its place.
+    // One call, whose tag was read.
     fn call(
         run: &[u8],
         tag: u64,
-        from: &mut Next<Self::Player>,
+        from: Next<Self::Player>,
         out: &mut [u8],
         place: usize,
-    ) -> Result<Went, Fault>
-        requires { Valid from.old.player }
-        ensures { TurnsOn calling state_of Valid (get_or by_tag tag none) run.now from.old out.old place result from.new out.new };
+    ) -> Result<Turn<Self::Player>, Fault>
+        requires { Valid from.player }
+        ensures { TurnsOn calling state_of Valid (get_or by_tag tag none) run.now from out.old place result out.new };
 
     ghost asked_is: { calling.asked ≡ tagged by_tag };
 }
 
 // The first turn.
-fn begin<C: Calls>(run: &[u8], out: &mut [u8]) -> Turn<C::Player>
+fn begin<C: CallsInPlace>(run: &[u8], out: &mut [u8]) -> Turn<C::Player>
     ensures { Begins C.calling C.state_of C.Valid run.now out.old result out.new }
 {
     match C::make(run, out) {
@@ -96,14 +100,14 @@ fn begin<C: Calls>(run: &[u8], out: &mut [u8]) -> Turn<C::Player>
 }
 
 // One call, by its tag.
-fn by_tag<C: Calls>(
+fn by_tag<C: CallsInPlace>(
     run: &[u8],
     from: &mut Next<C::Player>,
     out: &mut [u8],
     place: usize,
 ) -> Result<Went, Fault>
     requires { C.Valid from.old.player }
-    ensures { TurnsOn C.calling C.state_of C.Valid C.calling.asked run.now from.old out.old place result from.new out.new }
+    ensures { TurnsInPlace C.calling C.state_of C.Valid C.calling.asked run.now from.old out.old place result from.new out.new }
 {
     let (tag, at) = fields::read_number(run, from.at)?;
     from.at = at;
@@ -111,7 +115,12 @@ fn by_tag<C: Calls>(
 }
 
 // One call.
-fn one_call<C: Calls>(run: &[u8], from: &mut Next<C::Player>, out: &mut [u8], place: usize) -> Went
+fn one_call<C: CallsInPlace>(
+    run: &[u8],
+    from: &mut Next<C::Player>,
+    out: &mut [u8],
+    place: usize,
+) -> Went
     requires { C.Valid from.old.player }
     ensures { Turns C.calling C.state_of C.Valid run.now (given_of C.calling C.state_of from.old.player run.now (C.calling.asked run.now from.old.at)) out.old place (turn_of result (Some from.new)) out.new }
 {
@@ -122,7 +131,7 @@ fn one_call<C: Calls>(run: &[u8], from: &mut Next<C::Player>, out: &mut [u8], pl
 }
 
 // The calls from `next` on. Each takes a byte or more, so there are no more of them than bytes.
-fn calls_from<C: Calls>(
+fn calls_from<C: CallsInPlace>(
     run: &[u8],
     mut next: Next<C::Player>,
     out: &mut [u8],
@@ -144,7 +153,7 @@ fn calls_from<C: Calls>(
 }
 
 // The calls from the turn `first` on.
-fn finish<C: Calls>(run: &[u8], first: Turn<C::Player>, out: &mut [u8]) -> usize
+fn finish<C: CallsInPlace>(run: &[u8], first: Turn<C::Player>, out: &mut [u8]) -> usize
     requires { (first.place ≤ length out.old) × IfSome first.next (λ n. C.Valid n.player) }
     ensures { Finishes (behind C.calling C.state_of run.now first.next (length run.now)) out.old first.place result out.new }
 {
@@ -156,7 +165,7 @@ fn finish<C: Calls>(run: &[u8], first: Turn<C::Player>, out: &mut [u8]) -> usize
 }
 
 // Reads the calls of `run` one by one, makes them, and writes what each gives to `out`. Answers how many bytes it wrote.
-pub fn run<C: Calls>(run: &[u8], out: &mut [u8]) -> u64
+pub fn run<C: CallsInPlace>(run: &[u8], out: &mut [u8]) -> u64
     ensures { Runs C.calling run.now out.old result out.new }
 {
     let first = begin::<C>(run, out);

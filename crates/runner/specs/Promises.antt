@@ -12,7 +12,7 @@ use Rattle.runner.specs.Output.{players}
 
 -- A turn of a call that is read from the place n.at on, and leaves n as n'. Where there is a fault in its bytes nothing is written, and what is played stays.
 abbrev pub TurnsOn : Parser Asked → List ℕ → Next Player → List ℕ → ℕ → Result Went Fault → Next Player → List ℕ → Type 0
-TurnsOn = run_calls.TurnsOn players state_of Valid
+TurnsOn = run_calls.TurnsInPlace players state_of Valid
 
 -- a turn of the call a, behind which the run goes on at n.at; it leaves n as n'
 abbrev pub TurnsBy : Asked → Next Player → List ℕ → ℕ → Went → Next Player → List ℕ → Type 0

@@ -15,12 +15,13 @@ use super::legs::legs_turn;
 use super::values::{path_at_turn, phase_turn, shape_at_turn};
 use fields::Fault;
 use player::Player;
-use run_calls::{Calls, Next, Turn, Went, say_number};
+use run_calls::in_place::CallsInPlace;
+use run_calls::{Next, Turn, Went, say_number};
 
 // Runs on a player. The clauses of `make` and `call` stand here too: the check gives a method none of its trait's.
 pub struct Players;
 
-impl Calls for Players {
+impl CallsInPlace for Players {
     type Player = Player;
 
     ghost Making = { SettingsCodes × ℕ };

@@ -8,7 +8,7 @@ use Rattle.run_calls.proofs.calls_from.Given as goal
 
 abbrev pub invariant-loop : goal.invariant-loop
 invariant-loop g l =
-    let m = g.C.Calls in
+    let m = g.C.CallsInPlace in
     (l.counter ≤ length l.run)
     × Goes m.calling m.state_of m.Valid l.run l.initial.out l.fn.place (behind m.calling m.state_of l.run (Some l.fn.next) (length l.run)) l.out
     (record { place = l.place; next = Some l.next }) (length l.run - l.counter)

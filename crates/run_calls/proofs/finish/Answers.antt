@@ -6,4 +6,4 @@ pub returns-in-Some : goal.returns-in-Some
 returns-in-Some g c = rw c.in-Some.is c.calls_from.ensures
 
 pub returns-in-None : goal.returns-in-None
-returns-in-None g c = let m = g.C.Calls in finishes_none m.calling m.state_of m.Valid c.args.run.now c.args.out.now c.args.first.place _ c.in-None.is
+returns-in-None g c = let m = g.C.CallsInPlace in finishes_none m.calling m.state_of m.Valid c.args.run.now c.args.out.now c.args.first.place _ c.in-None.is

@@ -6,7 +6,7 @@ use Rattle.ensemble_player.specs.Ensembles.{state_of, Valid}
 use Rattle.run_calls.proofs.Turning.{begins_made, begins_refused}
 use Rattle.ensemble_runner.specs.Asked.{make}
 use Rattle.ensemble_runner.specs.Output.{ensembles}
-use Rattle.ensemble_runner.proofs.calling.EnsemblesCalls.make.Goals as goal
+use Rattle.ensemble_runner.proofs.calling.EnsemblesCallsInPlace.make.Goals as goal
 
 pub returns-in-Ok : goal.returns-in-Ok
 unfolding make after

@@ -5,7 +5,7 @@ use Rattle.fields.specs.Parser.{after}
 use Rattle.player.specs.Player.{state_of, Valid}
 use Rattle.run_calls.proofs.Turning.{begins_made, begins_refused}
 use Rattle.runner.specs.Output.{make, players}
-use Rattle.runner.proofs.calling.PlayersCalls.make.Goals as goal
+use Rattle.runner.proofs.calling.PlayersCallsInPlace.make.Goals as goal
 
 pub returns-in-Ok : goal.returns-in-Ok
 unfolding make after
