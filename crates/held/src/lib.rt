@@ -4,10 +4,10 @@
 #[cfg(test)]
 mod tests;
 
-ghost use Rattle.std.specs.Prelude.{ℕ, ⊤, refl, get_or};
+ghost use Rattle.std.specs.Prelude.{ℕ, refl, get_or};
 ghost use Rattle.outputs.specs.Output.{Runs, none};
 ghost use Rattle.run_calls.specs.Turns.{Makes, TurnsOn};
-ghost use Rattle.held.specs.Held.{held, by_tag};
+ghost use Rattle.held.specs.Held.{held, by_tag, state_of, Valid};
 
 use fields::Fault;
 use run_calls::{Calls, Next, Turn, say_number};
@@ -28,12 +28,12 @@ impl Calls for Held {
 
     ghost by_tag = { by_tag };
 
-    ghost state_of = { λ p. p };
+    ghost state_of = { state_of };
 
-    ghost Valid = { λ p. ⊤ };
+    ghost Valid = { Valid };
 
     fn make(run: &[u8], out: &mut [u8]) -> Result<Turn<u64>, Fault>
-        ensures { Makes held (λ p. p) (λ p. ⊤) run.now out.old result out.new }
+        ensures { Makes held state_of Valid run.now out.old result out.new }
     {
         let (player, at) = fields::read_number(run, 0)?;
         Ok(say_number(out, 0, 0).turn(Some(Next { at, player })))
@@ -46,7 +46,7 @@ impl Calls for Held {
         out: &mut [u8],
         place: usize,
     ) -> Result<Turn<u64>, Fault>
-        ensures { TurnsOn held (λ p. p) (λ p. ⊤) (get_or by_tag tag none) run.now from out.old place result out.new }
+        ensures { TurnsOn held state_of Valid (get_or by_tag tag none) run.now from out.old place result out.new }
     {
         match tag {
             0 => {
